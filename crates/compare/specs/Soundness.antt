@@ -1,0 +1,52 @@
+-- The law of each walk, which the trait asks for: start and steps stay inside, and positions are numbered apart.
+use mathlib.Core.Path.{_≡_, sym, ap, subst, _∙_}
+use mathlib.Core.Bool.{Bool, true, false, cond}
+use Prim.Native.Nat.{ℕ, _+_, _*_, _/_, _%_, _≤_, _<_}
+use native.Mathlib.Omega.{arith}
+use native.Mathlib.Nat.{mul-le-mul}
+use lib.Arith.{digits-lt, digits-div, digits-mod}
+use lib.Dec.{ltb}
+use Rattle.std.specs.declared.option.Option.the-variants.{Some, None}
+use Rattle.std.proofs.shelf.Tests.{cond-both, ltb-true}
+use Rattle.machine.specs.Machines.{Machine, Sound, within, reset-of, step-of}
+use Rattle.machine.specs.Outputs.{differ}
+use Rattle.machine.specs.Products.{pair}
+use Rattle.machine.specs.declared.pair.Pair.{Pair}
+use Rattle.search.specs.Graphs.{Sound as Walk-sound}
+use Rattle.compare.specs.Walks.{pair-step, pair-graph, Pair-inside}
+
+within-below : (n x : ℕ) → 1 ≤ n → within n x < n
+within-below n x some = cond-both (ltb x n) x 0 (λ y. y < n) (λ e. ltb-true x n e) (λ e. some)
+
+module _ (m : Machine) (sound : Sound m) where
+  reset-below : (a : ℕ) → reset-of m a < m .states
+  reset-below a = sound .reset-inside _ (within-below (m .members) a (sound .some-member))
+
+  next-below : (a q l : ℕ) → step-of m a q l .0 < m .states
+  next-below a q l = sound .next-inside _ _ _ (within-below (m .members) a (sound .some-member)) (within-below (m .states) q (sound .some-state)) (within-below (m .letters) l (sound .some-letter))
+
+module _ (m : Machine) (sound : Sound m) (a b : ℕ) where
+  stepped : (p : Pair) (l : ℕ) (q : Pair) → pair-step m a b p l ≡ Some q → Pair-inside m q
+  stepped p l q e = go (differ (step-of m a (p .first) l .1) (step-of m b (p .second) l .1)) e
+    where
+      go : (t : Bool) → cond t None (Some (pair (step-of m a (p .first) l .0) (step-of m b (p .second) l .0))) ≡ Some q → Pair-inside m q
+      go true o = absurd (let z : _≡_ {A = ℕ} 0 1 = cc in omega arith)
+      go false o =
+          let x : step-of m a (p .first) l .0 ≡ q .first = cc in
+          let y : step-of m b (p .second) l .0 ≡ q .second = cc in
+          (subst (λ (n : ℕ). n < m .states) x (next-below m sound a (p .first) l), subst (λ (n : ℕ). n < m .states) y (next-below m sound b (p .second) l))
+
+  same : (p q : Pair) → Pair-inside m p → Pair-inside m q → p .first * m .states + p .second ≡ q .first * m .states + q .second → p ≡ q
+  same p q h k e =
+      let x : p .first ≡ q .first = sym (digits-div (p .first) (h .1)) ∙ ap (λ (n : ℕ). n / m .states) e ∙ digits-div (q .first) (k .1) in
+      let y : p .second ≡ q .second = sym (digits-mod (p .first) (h .1)) ∙ ap (λ (n : ℕ). n % m .states) e ∙ digits-mod (q .first) (k .1) in
+      ap (λ (n : ℕ). pair n (p .second)) x ∙ ap (pair (q .first)) y
+
+  pub pair-sound : Walk-sound (pair-graph m a b) (Pair-inside m)
+  pair-sound = record {
+    start-inside = (reset-below m sound a, reset-below m sound b);
+    step-inside = λ p l q i c e. stepped p l q e;
+    number-same = same;
+    number-below = λ p h. digits-lt (h .0) (h .1);
+    count-fits = let few = mul-le-mul (sound .few-states) (sound .few-states) in omega arith;
+  }

@@ -1,0 +1,4 @@
+pub mod Cells
+pub mod Tables
+pub mod TakingIn
+pub mod Soundness

@@ -1,0 +1,25 @@
+-- Sequences of letters and their order.
+use mathlib.Core.Path.{_≡_}
+use mathlib.Core.List.{List, [], _∷_}
+use mathlib.Core.Logic.{_⊎_}
+use Prim.Native.Nat.{ℕ, _<_}
+use lib.ListN.{length}
+
+-- each letter of the sequence is below n
+abbrev pub Letters : ℕ → List ℕ → Type 0
+Letters n [] = Unit {0}
+Letters n (l ∷ s) = (l < n) × Letters n s
+
+-- the smaller letter at the first unequal place
+abbrev pub Lexical : List ℕ → List ℕ → Type 0
+Lexical [] t = ⊥
+Lexical (a ∷ s) [] = ⊥
+Lexical (a ∷ s) (b ∷ t) = (a < b) ⊎ ((a ≡ b) × Lexical s t)
+
+-- s stands before t: it is shorter, or as long and smaller at the first unequal place
+abbrev pub Before : List ℕ → List ℕ → Type 0
+Before s t = (length s < length t) ⊎ ((length s ≡ length t) × Lexical s t)
+
+-- s is t or stands before it
+abbrev pub At-most : List ℕ → List ℕ → Type 0
+At-most s t = (s ≡ t) ⊎ Before s t

@@ -1,0 +1,28 @@
+ghost use mathlib.Core.Path.{_≡_};
+ghost use Rattle.machine.specs.Machines.{Machine, Sound, reset-of, step-of};
+
+// A family of Mealy machines over common letters and states. Member 0 is the good one, the others are faulty.
+// A member, state or letter out of range is read as 0. A device refuses nothing, and answering changes nothing.
+pub trait Device {
+    // What the device means.
+    ghost meaning: { Self → Machine };
+
+    // The ranges, which each device proves of its meaning.
+    ghost sound: { (d : Self) → Sound (meaning d) };
+
+    fn members(&self) -> u16
+        ensures { λ r. ⌜ r ≡ meaning (now (self .entry)) .members ⌝ };
+
+    fn letters(&self) -> u8
+        ensures { λ r. ⌜ r ≡ meaning (now (self .entry)) .letters ⌝ };
+
+    fn states(&self) -> u16
+        ensures { λ r. ⌜ r ≡ meaning (now (self .entry)) .states ⌝ };
+
+    fn reset(&self, member: u16) -> u16
+        ensures { λ r. ⌜ r ≡ reset-of (meaning (now (self .entry))) member ⌝ };
+
+    // The next state and the output word.
+    fn step(&self, member: u16, state: u16, letter: u8) -> (u16, u32)
+        ensures { λ r. ⌜ r ≡ step-of (meaning (now (self .entry))) member state letter ⌝ };
+}
