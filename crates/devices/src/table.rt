@@ -14,7 +14,7 @@ mod taking_in;
 pub use device::TableDevice;
 
 // A device given by its cells: the cell of state q and letter l stands at q * letters + l.
-// Fault k = 1, 2, .. is the good table with the altered cell k - 1 in the place of its good cell.
+// Fault k = 1, 2, .. has the altered cell k - 1 in the place of a good cell, and all other cells as they are.
 #[derive(Clone, Copy)]
 pub struct Table<'a> {
     cells: &'a [Cell],

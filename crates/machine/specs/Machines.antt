@@ -3,7 +3,7 @@ use mathlib.Core.Bool.{cond}
 use Prim.Native.Nat.{ℕ, _≤_, _<_}
 use lib.Dec.{ltb}
 
--- how many members, letters and states there are; a member's reset state; the next state and the output word of a member in a state at a letter
+-- how many members, letters and states there are; each member's reset; where a member goes from a state at a letter, and what it puts out
 pub record Machine : Type 0 where
   pub members : ℕ
   pub letters : ℕ
@@ -12,7 +12,7 @@ pub record Machine : Type 0 where
   pub next : ℕ → ℕ → ℕ → ℕ
   pub output : ℕ → ℕ → ℕ → ℕ
 
--- the ranges of the counts, and that resets and next states are states
+-- the counts are in range, and every reset and next state is a state
 pub record Sound (m : Machine) : Type 0 where
   pub some-member : 1 ≤ m .members
   pub few-members : m .members ≤ 1025
@@ -31,6 +31,6 @@ within n x = cond (ltb x n) x 0
 abbrev pub reset-of : Machine → ℕ → ℕ
 reset-of m a = m .reset (within (m .members) a)
 
--- one step of a member: the next state and the output word
+-- one step of a member: where it goes, and its output word
 abbrev pub step-of : Machine → ℕ → ℕ → ℕ → ℕ × ℕ
 step-of m a q l = (m .next (within (m .members) a) (within (m .states) q) (within (m .letters) l), m .output (within (m .members) a) (within (m .states) q) (within (m .letters) l))

@@ -34,7 +34,7 @@ pub record Least-to (m : Machine) (a b : ℕ) (p : Pair) (s : List ℕ) : Type 0
 abbrev pub pair-at : Machine → ℕ → ℕ → List Pair → ℕ → Pair
 pair-at m a b ps k = getD ps k (reset-pair m a b)
 
--- ps is the list of the pairs that sequences lead to: every one, no other, each once, in the order of the least sequence that leads to each
+-- ps is the list of the pairs that sequences lead to: every one, no other, none twice, sorted by the least sequences that lead to them
 pub record Reachable-pairs (m : Machine) (a b : ℕ) (ps : List Pair) : Type 0 where
   pub every : (s : List ℕ) → Letters (m .letters) s → (k : ℕ) × (k < length ps) × (pair-at m a b ps k ≡ pair-after m a b s)
   pub reached : (k : ℕ) → k < length ps → (s : List ℕ) × Least-to m a b (pair-at m a b ps k) s

@@ -6,7 +6,7 @@ use Rattle.machine.specs.declared.refusal.Refusal.the-variants.{TextTooLong, B
 abbrev pub refusal-number : Refusal → ℕ
 -- a text has more bytes than a text may have
 refusal-number TextTooLong = 1
--- a line or directive breaks a rule that no other case names
+-- a line of the text is wrong in a way that no other case names
 refusal-number BadLine = 2
 -- a row stands before both widths are known
 refusal-number RowBeforeWidths = 3
@@ -20,15 +20,15 @@ refusal-number RowsDisagree = 6
 refusal-number CellNotGiven = 7
 -- a stated count is not the one found, or the reset is not among the states
 refusal-number CountMismatch = 8
--- a cell, gate, load, output, count or reset outside the device's rules
+-- something handed in for a device that its rules do not allow
 refusal-number OutsideDeviceRules = 9
 -- an altered cell out of range, or too many of them
 refusal-number BadAlteredCell = 10
 -- the device has no such member, or 0 where a fault is meant
 refusal-number NoSuchMember = 11
--- a state, name entry or pair out of range
+-- a state, a pair or a name entry that is not there
 refusal-number OutOfRange = 12
--- a sequence that is empty, too long, or has a letter out of range
+-- a sequence without letters, with too many, or with one that the device lacks
 refusal-number BadSequence = 13
 -- a work slice, cell slice or names slice is too short
 refusal-number WorkTooShort = 14
@@ -40,7 +40,7 @@ refusal-number WidthsDiffer = 16
 refusal-number FaultNotOpen = 21
 -- as many sequences are kept as can be
 refusal-number SequencesFull = 22
--- fewer letters are left than the sequence has
+-- the sequence has more letters than are left
 refusal-number LettersFull = 23
 -- no kept sequence has that number
 refusal-number NoSuchSequence = 24

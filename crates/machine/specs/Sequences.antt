@@ -10,13 +10,13 @@ abbrev pub Letters : ℕ → List ℕ → Type 0
 Letters n [] = Unit {0}
 Letters n (l ∷ s) = (l < n) × Letters n s
 
--- the smaller letter at the first unequal place
+-- where the two first part, s has the smaller letter
 abbrev pub Lexical : List ℕ → List ℕ → Type 0
 Lexical [] t = ⊥
 Lexical (a ∷ s) [] = ⊥
 Lexical (a ∷ s) (b ∷ t) = (a < b) ⊎ ((a ≡ b) × Lexical s t)
 
--- s stands before t: it is shorter, or as long and smaller at the first unequal place
+-- s stands before t: it is shorter, or as long and has the smaller letter where they first part
 abbrev pub Before : List ℕ → List ℕ → Type 0
 Before s t = (length s < length t) ⊎ ((length s ≡ length t) × Lexical s t)
 

@@ -1,8 +1,8 @@
 ghost use mathlib.Core.Path.{_≡_};
 ghost use Rattle.machine.specs.Machines.{Machine, Sound, reset-of, step-of};
 
-// A family of Mealy machines over common letters and states. Member 0 is the good one, the others are faulty.
-// A member, state or letter out of range is read as 0. A device refuses nothing, and answering changes nothing.
+// A family of Mealy machines over common letters and states: the good machine is member 0, each fault another member.
+// Numbers out of range are read as 0, so that no question is refused; answering changes nothing.
 pub trait Device {
     // What the device means.
     ghost meaning: { Self → Machine };
@@ -22,7 +22,7 @@ pub trait Device {
     fn reset(&self, member: u16) -> u16
         ensures { λ r. ⌜ r ≡ reset-of (meaning (now (self .entry))) member ⌝ };
 
-    // The next state and the output word.
+    // Where the member goes, and its output word.
     fn step(&self, member: u16, state: u16, letter: u8) -> (u16, u32)
         ensures { λ r. ⌜ r ≡ step-of (meaning (now (self .entry))) member state letter ⌝ };
 }

@@ -88,7 +88,7 @@ pub record Goal-at {P : Type 0} (g : Graph P) (xs : List (Visit P)) (at letter :
   pub chained : Chained xs (at + 1)
   pub least : Least-goal g (path xs at ++ letter ∷ [])
 
--- no sequence meets the goal; the first n visits are the positions that sequences lead to: every one, no other, each once, in the order of the least sequence that leads to each
+-- no sequence meets the goal; the first n visits are the positions that sequences lead to: every one, no other, none twice, sorted by the least sequences that lead to them
 pub record Exhaustive {P : Type 0} (g : Graph P) (xs : List (Visit P)) (n : ℕ) : Type 0 where
   pub fits : n ≤ length xs
   pub never : (t : List ℕ) → Letters (g .letters) t → run g (g .start) t ≡ None → ⊥

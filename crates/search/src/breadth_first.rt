@@ -55,7 +55,8 @@ fn enter<W: Walk>(
     ensures lent { λ _. ⌜ name (now (list .exit) .visits) ≡ name (now (list .entry) .visits) ⌝ }
 {
     let number = walk.number(visit.position);
-    marks[number] = list.len() as u32;
+    let index = list.len();
+    marks[number] = index as u32;
     list.push(visit);
 }
 

@@ -3,7 +3,6 @@ ghost use lib.ListN.{length};
 ghost use Rattle.search.specs.Answers.{Finds};
 use super::breadth_first::Outcome;
 use super::breadth_first::explore;
-use super::path::depth;
 use super::path::write_path;
 use super::visit::Visit;
 use super::walk::Walk;
@@ -36,13 +35,9 @@ pub fn shortest<W: Walk>(
     }
     match explore(walk, visits, marks) {
         Outcome::Exhausted { count } => Found::Exhausted { count },
-        Outcome::Goal { at, letter } => {
-            let length = depth(visits, at) + 1;
-            if answer.len() < length {
-                return Found::AnswerTooShort;
-            }
-            write_path(visits, at, letter, &mut answer[0..length]);
-            Found::Goal { length }
-        }
+        Outcome::Goal { at, letter } => match write_path(visits, at, letter, answer) {
+            Some(length) => Found::Goal { length },
+            None => Found::AnswerTooShort,
+        },
     }
 }

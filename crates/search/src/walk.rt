@@ -1,7 +1,7 @@
 ghost use mathlib.Core.Path.{_≡_};
 ghost use Rattle.search.specs.Graphs.{Graph, Sound};
 
-// A walk over positions of its own kind: letters lead from a position to a position or to the goal.
+// A walk over positions of its own kind: each letter leads from a position to another, or meets the goal.
 pub trait Walk {
     type Position: Copy;
 
@@ -11,7 +11,7 @@ pub trait Walk {
     // The values that are positions of this walk.
     ghost Inside: { Self → Self·Position → Type 0 };
 
-    // The start and the steps stay inside, and positions inside have the same number exactly when they are the same.
+    // The start and the steps stay inside, and no two positions inside share a number.
     ghost sound: { (w : Self) → Sound (graph w) (Inside w) };
 
     fn start(&self) -> Self::Position

@@ -8,7 +8,7 @@ use Rattle.machine.specs.declared.pair.Pair.{Pair}
 use Rattle.search.specs.declared.visit.Visit.{Visit}
 use Rattle.compare.specs.Comparisons.{positions}
 use Rattle.compare.proofs.Listing.{images-more}
-use Rattle.compare.proofs.comparing.list_pairs.Needs as need
+use Rattle.compare.proofs.comparing.write_pairs.Needs as need
 
 pub loop-i-again : need.loop-i-again
 loop-i-again c =

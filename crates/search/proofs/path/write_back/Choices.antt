@@ -3,7 +3,7 @@ use mathlib.Core.List.{[], _∷_, _++_}
 use Prim.Native.Nat.{_≤_, _<_}
 use lib.ListN.{length, drop}
 use Rattle.search.specs.Visits.{path}
-use Rattle.search.proofs.path.write_path.Given as given
+use Rattle.search.proofs.path.write_back.Given as given
 
 abbrev pub Inv-loop-index : given.InvT-loop-index
 Inv-loop-index g l =

@@ -6,8 +6,8 @@ use lib.ListN.{length, drop, length-set}
 use Rattle.std.proofs.shelf.Lists.{drop-set, drop-all}
 use Rattle.search.specs.Visits.{path}
 use Rattle.search.proofs.Paths.{link-back, length-path-more, written-more}
-use Rattle.search.proofs.path.write_path.Given.{Over}
-use Rattle.search.proofs.path.write_path.Needs as need
+use Rattle.search.proofs.path.write_back.Given.{Over}
+use Rattle.search.proofs.path.write_back.Needs as need
 
 back : (g : Over) (c : need.After-index-visits-index g) → c .index-visits-index .result .from < c .loop-index .index
 back g c = link-back (c .args .visits .now) (c .args .at + 1) (c .pre .chained) (c .loop-index .index) (c .index-visits-index .result) (omega arith) (c .index-visits-index .is) (omega arith) (omega arith)
