@@ -1,2 +1,4 @@
 pub mod Pairs
 pub mod Listing
+pub mod Replays
+pub mod States

@@ -5,7 +5,7 @@ use Prim.Native.Nat.{ℕ, _+_, _*_, _/_, _%_, _≤_, _<_}
 use native.Mathlib.Omega.{arith}
 use native.Mathlib.Nat.{mul-le-mul}
 use lib.Arith.{digits-lt, digits-div, digits-mod}
-use lib.Dec.{ltb}
+use lib.Dec.{eqb, ltb}
 use Rattle.std.specs.declared.option.Option.the-variants.{Some, None}
 use Rattle.std.proofs.shelf.Tests.{cond-both, ltb-true}
 use Rattle.machine.specs.Machines.{Machine, Sound, within, reset-of, step-of}
@@ -13,7 +13,7 @@ use Rattle.machine.specs.Outputs.{differ}
 use Rattle.machine.specs.Products.{pair}
 use Rattle.machine.specs.declared.pair.Pair.{Pair}
 use Rattle.search.specs.Graphs.{Sound as Walk-sound}
-use Rattle.compare.specs.Walks.{pair-step, pair-graph, Pair-inside}
+use Rattle.compare.specs.Walks.{pair-step, pair-graph, Pair-inside, state-step, state-graph}
 
 within-below : (n x : ℕ) → 1 ≤ n → within n x < n
 within-below n x some = cond-both (ltb x n) x 0 (λ y. y < n) (λ e. ltb-true x n e) (λ e. some)
@@ -49,4 +49,21 @@ module _ (m : Machine) (sound : Sound m) (a b : ℕ) where
     number-same = same;
     number-below = λ p h. digits-lt (h .0) (h .1);
     count-fits = let few = mul-le-mul (sound .few-states) (sound .few-states) in omega arith;
+  }
+
+module _ (m : Machine) (sound : Sound m) (a wanted : ℕ) where
+  arrived : (p l q : ℕ) → state-step m a wanted p l ≡ Some q → q < m .states
+  arrived p l q e = go (eqb (step-of m a p l .0) wanted) e
+    where
+      go : (t : Bool) → cond t None (Some (step-of m a p l .0)) ≡ Some q → q < m .states
+      go true o = absurd (let z : _≡_ {A = ℕ} 0 1 = cc in omega arith)
+      go false o = let x : step-of m a p l .0 ≡ q = cc in subst (λ (n : ℕ). n < m .states) x (next-below m sound a p l)
+
+  pub state-sound : Walk-sound (state-graph m a wanted) (λ q. q < m .states)
+  state-sound = record {
+    start-inside = reset-below m sound a;
+    step-inside = λ p l q i c e. arrived p l q e;
+    number-same = λ p q h k e. e;
+    number-below = λ p h. h;
+    count-fits = let few = sound .few-states in omega arith;
   }

@@ -1,10 +1,10 @@
 -- The walks over a device: what each means, and that it is sound.
-use mathlib.Core.Path.{_≡_, sym, ap, _∙_}
-use mathlib.Core.Bool.{Bool, true, false, cond}
-use Prim.Native.Nat.{ℕ, _+_, _*_, _/_, _%_, _<_}
+use mathlib.Core.Bool.{cond}
+use Prim.Native.Nat.{ℕ, _+_, _*_, _<_}
+use lib.Dec.{eqb}
 use Rattle.std.specs.declared.option.Option.{Option}
 use Rattle.std.specs.declared.option.Option.the-variants.{Some, None}
-use Rattle.machine.specs.Machines.{Machine, Sound, reset-of, step-of}
+use Rattle.machine.specs.Machines.{Machine, reset-of, step-of}
 use Rattle.machine.specs.Outputs.{differ}
 use Rattle.machine.specs.Products.{pair, reset-pair}
 use Rattle.machine.specs.declared.pair.Pair.{Pair}
@@ -22,6 +22,20 @@ pair-graph m a b = record {
   step = pair-step m a b;
   number = λ p. p .first * m .states + p .second;
   count = m .states * m .states;
+}
+
+-- where a letter leads member a from the state p: to the goal where it arrives at q
+abbrev pub state-step : Machine → ℕ → ℕ → ℕ → ℕ → Option ℕ
+state-step m a q p l = cond (eqb (step-of m a p l .0) q) None (Some (step-of m a p l .0))
+
+-- the walk over the states of member a, from reset, in search of q
+abbrev pub state-graph : Machine → ℕ → ℕ → Graph ℕ
+state-graph m a q = record {
+  start = reset-of m a;
+  letters = m .letters;
+  step = state-step m a q;
+  number = λ p. p;
+  count = m .states;
 }
 
 -- both states of the pair are states of the device

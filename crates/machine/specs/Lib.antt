@@ -1,3 +1,4 @@
+pub mod Lists
 pub mod Machines
 pub mod Sequences
 pub mod Outputs

@@ -16,6 +16,16 @@ abbrev pub state-from : Machine → ℕ → ℕ → List ℕ → ℕ
 state-from m a q [] = q
 state-from m a q (l ∷ s) = state-from m a (step-of m a q l .0) s
 
+-- s is the least of all sequences that lead member a from reset to the state q
+pub record Least-way (m : Machine) (a q : ℕ) (s : List ℕ) : Type 0 where
+  pub letters : Letters (m .letters) s
+  pub leads : state-from m a (reset-of m a) s ≡ q
+  pub least : (t : List ℕ) → Letters (m .letters) t → state-from m a (reset-of m a) t ≡ q → At-most s t
+
+-- no sequence leads member a from reset to the state q
+abbrev pub Never-reached : Machine → ℕ → ℕ → Type 0
+Never-reached m a q = (s : List ℕ) → Letters (m .letters) s → state-from m a (reset-of m a) s ≡ q → ⊥
+
 -- the pair of reset states
 abbrev pub reset-pair : Machine → ℕ → ℕ → Pair
 reset-pair m a b = pair (reset-of m a) (reset-of m b)
