@@ -29,12 +29,11 @@ length-positions n xs fits = length-map (take n xs) _ ∙ length-take-le n xs fi
 
 module _ (m : Machine) (a b : ℕ) where
   -- whether the outputs from the pair p on differ at place k
-  differ-from : Pair → List ℕ → ℕ → Bool
+  abbrev pub differ-from : Pair → List ℕ → ℕ → Bool
   differ-from p s k = differ (getD (outputs-from m a (p .first) s) k 0) (getD (outputs-from m b (p .second) s) k 0)
 
   -- the first letter's outputs decide, or the rest does
   met-differs : (s : List ℕ) (p : Pair) → run (pair-graph m a b) p s ≡ None → (k : ℕ) × (k < length s) × (differ-from p s k ≡ true)
-  unfolding differ-from
   met-differs [] p e = none-some p (sym e)
   met-differs (l ∷ s) p e = go (differ (step-of m a (p .first) l .1) (step-of m b (p .second) l .1)) refl e (met-differs s)
     where
@@ -43,7 +42,6 @@ module _ (m : Machine) (a b : ℕ) where
       go false d o ih = let x = ih _ o in let low = x .1 in (suc (x .0), omega arith, x .2)
 
   differs-met : (s : List ℕ) (p : Pair) (k : ℕ) → k < length s → differ-from p s k ≡ true → run (pair-graph m a b) p s ≡ None
-  unfolding differ-from
   differs-met [] p k low d = absurd (omega arith)
   differs-met (l ∷ s) p k low d = go (differ (step-of m a (p .first) l .1) (step-of m b (p .second) l .1)) refl k low d (differs-met s)
     where
@@ -61,11 +59,9 @@ module _ (m : Machine) (a b : ℕ) where
       go false o ih = ih _ q o
 
   pub goal-distinguishes : (s : List ℕ) → Letters (m .letters) s → run (pair-graph m a b) (reset-pair m a b) s ≡ None → Distinguishes m a b s
-  unfolding differ-from
   goal-distinguishes s h e = let x = met-differs s (reset-pair m a b) e in record { letters = h; place = x .0; inside = x .1; differs = x .2 }
 
   pub distinguishes-goal : (s : List ℕ) → Distinguishes m a b s → run (pair-graph m a b) (reset-pair m a b) s ≡ None
-  unfolding differ-from
   distinguishes-goal s d = differs-met s (reset-pair m a b) (d .place) (d .inside) (d .differs)
 
   pub least-distinguishing : (s : List ℕ) → Least-goal (pair-graph m a b) s → Least-distinguishing m a b s
@@ -77,7 +73,6 @@ module _ (m : Machine) (a b : ℕ) where
   -- the first n visits of a search that ran dry
   module _ (xs : List (Visit Pair)) (n : ℕ) (all : Exhaustive (pair-graph m a b) xs n) where
     pub equivalent : Equivalent m a b
-    unfolding differ-from
     equivalent s h k low = go (differ-at m a b s k) refl
       where
         go : (t : Bool) → differ-at m a b s k ≡ t → t ≡ false

@@ -1,5 +1,6 @@
 pub mod Walks
 pub mod Soundness
-pub mod Comparisons
 pub mod Replays
 pub mod Reaches
+pub mod Checks
+pub mod Comparisons

@@ -13,17 +13,31 @@ use Rattle.machine.specs.Outputs.{differ}
 use Rattle.machine.specs.Products.{pair}
 use Rattle.machine.specs.declared.pair.Pair.{Pair}
 use Rattle.search.specs.Graphs.{Sound as Walk-sound}
-use Rattle.compare.specs.Walks.{pair-step, pair-graph, Pair-inside, state-step, state-graph}
+use Rattle.compare.specs.Walks.{pair-number, pair-step, pair-graph, Pair-inside, state-step, state-graph}
 
 within-below : (n x : ℕ) → 1 ≤ n → within n x < n
 within-below n x some = cond-both (ltb x n) x 0 (λ y. y < n) (λ e. ltb-true x n e) (λ e. some)
 
 module _ (m : Machine) (sound : Sound m) where
-  reset-below : (a : ℕ) → reset-of m a < m .states
+  pub reset-below : (a : ℕ) → reset-of m a < m .states
   reset-below a = sound .reset-inside _ (within-below (m .members) a (sound .some-member))
 
-  next-below : (a q l : ℕ) → step-of m a q l .0 < m .states
+  pub next-below : (a q l : ℕ) → step-of m a q l .0 < m .states
   next-below a q l = sound .next-inside _ _ _ (within-below (m .members) a (sound .some-member)) (within-below (m .states) q (sound .some-state)) (within-below (m .letters) l (sound .some-letter))
+
+-- pairs of states below n are numbered apart, below n * n
+pub pair-number-same : (n : ℕ) (p q : Pair) → p .second < n → q .second < n → pair-number n p ≡ pair-number n q → p ≡ q
+pair-number-same n p q h k e =
+    let x : p .first ≡ q .first = sym (digits-div (p .first) h) ∙ ap (λ (i : ℕ). i / n) e ∙ digits-div (q .first) k in
+    let y : p .second ≡ q .second = sym (digits-mod (p .first) h) ∙ ap (λ (i : ℕ). i % n) e ∙ digits-mod (q .first) k in
+    ap (λ (i : ℕ). pair i (p .second)) x ∙ ap (pair (q .first)) y
+
+pub pair-number-below : (n : ℕ) (p : Pair) → p .first < n → p .second < n → pair-number n p < n * n
+pair-number-below n p h k = digits-lt h k
+
+-- a device has at most 65,536 pairs
+pub few-pairs : (m : Machine) → Sound m → m .states * m .states ≤ 65536
+few-pairs m sound = mul-le-mul (sound .few-states) (sound .few-states)
 
 module _ (m : Machine) (sound : Sound m) (a b : ℕ) where
   stepped : (p : Pair) (l : ℕ) (q : Pair) → pair-step m a b p l ≡ Some q → Pair-inside m q
@@ -36,19 +50,13 @@ module _ (m : Machine) (sound : Sound m) (a b : ℕ) where
           let y : step-of m b (p .second) l .0 ≡ q .second = cc in
           (subst (λ (n : ℕ). n < m .states) x (next-below m sound a (p .first) l), subst (λ (n : ℕ). n < m .states) y (next-below m sound b (p .second) l))
 
-  same : (p q : Pair) → Pair-inside m p → Pair-inside m q → p .first * m .states + p .second ≡ q .first * m .states + q .second → p ≡ q
-  same p q h k e =
-      let x : p .first ≡ q .first = sym (digits-div (p .first) (h .1)) ∙ ap (λ (n : ℕ). n / m .states) e ∙ digits-div (q .first) (k .1) in
-      let y : p .second ≡ q .second = sym (digits-mod (p .first) (h .1)) ∙ ap (λ (n : ℕ). n % m .states) e ∙ digits-mod (q .first) (k .1) in
-      ap (λ (n : ℕ). pair n (p .second)) x ∙ ap (pair (q .first)) y
-
   pub pair-sound : Walk-sound (pair-graph m a b) (Pair-inside m)
   pair-sound = record {
     start-inside = (reset-below m sound a, reset-below m sound b);
     step-inside = λ p l q i c e. stepped p l q e;
-    number-same = same;
-    number-below = λ p h. digits-lt (h .0) (h .1);
-    count-fits = let few = mul-le-mul (sound .few-states) (sound .few-states) in omega arith;
+    number-same = λ p q h k e. pair-number-same (m .states) p q (h .1) (k .1) e;
+    number-below = λ p h. pair-number-below (m .states) p (h .0) (h .1);
+    count-fits = omega (arith, few-pairs m sound);
   }
 
 module _ (m : Machine) (sound : Sound m) (a wanted : ℕ) where

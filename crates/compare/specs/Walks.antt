@@ -14,13 +14,17 @@ use Rattle.search.specs.Graphs.{Graph}
 abbrev pub pair-step : Machine → ℕ → ℕ → Pair → ℕ → Option Pair
 pair-step m a b p l = cond (differ (step-of m a (p .first) l .1) (step-of m b (p .second) l .1)) None (Some (pair (step-of m a (p .first) l .0) (step-of m b (p .second) l .0)))
 
+-- the number of a pair of states, of which there are n
+abbrev pub pair-number : ℕ → Pair → ℕ
+pair-number n p = p .first * n + p .second
+
 -- the walk over the product machine of a and b, from the reset pair
 abbrev pub pair-graph : Machine → ℕ → ℕ → Graph Pair
 pair-graph m a b = record {
   start = reset-pair m a b;
   letters = m .letters;
   step = pair-step m a b;
-  number = λ p. p .first * m .states + p .second;
+  number = pair-number (m .states);
   count = m .states * m .states;
 }
 

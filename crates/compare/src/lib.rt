@@ -1,6 +1,6 @@
 // Questions about the members of a device: what tells two apart, where a sequence shows it, how a state is reached, and whether a list of pairs is closed.
 
-
+mod checking;
 mod comparing;
 mod finding;
 mod pair_walk;
@@ -10,7 +10,7 @@ mod replaying;
 mod state_walk;
 mod verdict;
 
-
+pub use checking::check;
 pub use comparing::compare;
 pub use finding::Finding;
 pub use reached::Reached;

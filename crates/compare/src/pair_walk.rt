@@ -1,11 +1,29 @@
 ghost use mathlib.Core.Path.{_≡_};
 ghost use denote.Ref.{now};
+ghost use Rattle.machine.specs.Products.{reset-pair};
 ghost use Rattle.compare.specs.Soundness.{pair-sound};
-ghost use Rattle.compare.specs.Walks.{pair-graph, Pair-inside};
+ghost use Rattle.compare.specs.Walks.{pair-graph, pair-number, Pair-inside};
 use machine::Device;
 use machine::Pair;
 use machine::outputs_differ;
 use search::Walk;
+
+// The number of a pair of states: pairs of states below the count have different numbers.
+pub(crate) fn pair_number(states: u16, pair: Pair) -> usize
+    ensures { λ r. ⌜ r ≡ pair-number states pair ⌝ }
+{
+    pair.first as usize * states as usize + pair.second as usize
+}
+
+// The pair of resets of two members.
+pub(crate) fn reset_pair<D: Device>(device: &D, first: u16, second: u16) -> Pair
+    ensures { λ r. ⌜ r ≡ reset-pair (meaning (now (device .entry))) first second ⌝ }
+{
+    Pair {
+        first: device.reset(first),
+        second: device.reset(second),
+    }
+}
 
 // Two members side by side from their resets: a position is a pair of states, and unequal outputs are the goal.
 #[derive(Clone, Copy)]
@@ -25,10 +43,7 @@ pub(crate) impl<'a, D: Device> Walk for PairWalk<'a, D> as PairWalkWalk {
     ghost sound = { λ w. pair-sound (D·Device .meaning (now (w .device))) (D·Device .sound (now (w .device))) (w .first) (w .second) };
 
     fn start(&self) -> Pair {
-        Pair {
-            first: self.device.reset(self.first),
-            second: self.device.reset(self.second),
-        }
+        reset_pair(self.device, self.first, self.second)
     }
 
     fn letters(&self) -> u8 {
@@ -41,7 +56,7 @@ pub(crate) impl<'a, D: Device> Walk for PairWalk<'a, D> as PairWalkWalk {
     }
 
     fn number(&self, position: Pair) -> usize {
-        position.first as usize * self.device.states() as usize + position.second as usize
+        pair_number(self.device.states(), position)
     }
 
     fn step(&self, position: Pair, letter: u8) -> Option<Pair> {
