@@ -17,6 +17,8 @@ use Rattle.machine.specs.declared.refusal.Refusal.the-variants.{NoSuchMember, W
 use Rattle.search.specs.declared.found.Found.{Found}
 use Rattle.search.specs.declared.found.Found.the-variants.{Goal, Exhausted, WorkTooShort as NoWork, AnswerTooShort as NoAnswer}
 use Rattle.search.specs.declared.visit.Visit.{Visit}
+use Rattle.compare.specs.Checks.{pairs-inside, finding, checked}
+use Rattle.compare.specs.declared.finding.Finding.the-variants.{Closed}
 use Rattle.compare.specs.declared.verdict.Verdict.{Verdict}
 use Rattle.compare.specs.declared.verdict.Verdict.the-variants.{Differ, Equivalent as Same}
 
@@ -35,7 +37,7 @@ Pair-work m v w = (m .states * m .states ≤ v) × (m .states * m .states ≤ w)
 -- what the search over the product machine answers: the letters found, or visits that are the reachable pairs
 abbrev pub Pairs-searched : Machine → ℕ → ℕ → ℕ → ℕ → List ℕ → Found → List (Visit Pair) → List ℕ → Type 0
 Pairs-searched m a b v w letters (Goal n) xs letters′ = Pair-work m v w × ((s : List ℕ) × Least-distinguishing m a b s × (length s ≡ n) × First-entries s letters letters′)
-Pairs-searched m a b v w letters (Exhausted n) xs letters′ = Pair-work m v w × Equivalent m a b × (n ≤ length xs) × (length (positions (take n xs)) ≡ n) × Reachable-pairs m a b (positions (take n xs)) × (letters′ ≡ letters)
+Pairs-searched m a b v w letters (Exhausted n) xs letters′ = Pair-work m v w × Equivalent m a b × (n ≤ length xs) × (length (positions (take n xs)) ≡ n) × Reachable-pairs m a b (positions (take n xs)) × (pairs-inside (m .states) (positions (take n xs)) ≡ true) × (finding m a b (positions (take n xs)) ≡ Closed) × (letters′ ≡ letters)
 Pairs-searched m a b v w letters NoWork xs letters′ = ((v < m .states * m .states) ⊎ (w < m .states * m .states)) × (letters′ ≡ letters)
 Pairs-searched m a b v w letters NoAnswer xs letters′ = Pair-work m v w × ((s : List ℕ) × Least-distinguishing m a b s × (length letters < length s)) × (letters′ ≡ letters)
 
@@ -59,11 +61,11 @@ Comparison-refused m a b v w letters pairs r =
     ⊎ (Members m a b × (((r ≡ WorkTooShort) × ((v < m .states * m .states) ⊎ (w < m .states * m .states)))
     ⊎ (Pair-work m v w × (r ≡ AnswerTooShort) × (Short-letters m a b letters ⊎ Short-pairs m a b pairs))))
 
--- the answer for a and b over v visits, w mark words, a letter slice and a pair slice, with what the last two hold afterwards
+-- the answer for a and b, whose pairs always check as closed, over v visits, w mark words, a letter slice and a pair slice, with what the last two hold afterwards
 abbrev pub Compared : Machine → ℕ → ℕ → ℕ → ℕ → List ℕ → List Pair → Result Verdict Refusal → List ℕ → List Pair → Type 0
 Compared m a b v w letters pairs (Ok (Differ n)) letters′ pairs′ =
     Members m a b × Pair-work m v w × ((s : List ℕ) × Least-distinguishing m a b s × (length s ≡ n) × First-entries s letters letters′) × (pairs′ ≡ pairs)
 Compared m a b v w letters pairs (Ok (Same n)) letters′ pairs′ =
-    Members m a b × Pair-work m v w × Equivalent m a b × ((qs : List Pair) × Reachable-pairs m a b qs × (length qs ≡ n) × First-entries qs pairs pairs′) × (letters′ ≡ letters)
+    Members m a b × Pair-work m v w × Equivalent m a b × ((qs : List Pair) × Reachable-pairs m a b qs × (checked m a b qs ≡ Ok Closed) × (length qs ≡ n) × First-entries qs pairs pairs′) × (letters′ ≡ letters)
 Compared m a b v w letters pairs (Err r) letters′ pairs′ =
     Comparison-refused m a b v w letters pairs r × (letters′ ≡ letters) × (pairs′ ≡ pairs)
