@@ -46,6 +46,7 @@ module _ (m : Machine) (a q : ℕ) where
     where
       next : ℕ
       next = step-of m a p l .0
+
       go : (t : Bool) → eqb (step-of m a p l .0) q ≡ t → and-then (cond t None (Some (step-of m a p l .0))) (λ x. run (state-graph m a q) x s) ≡ None → ((x : ℕ) → run (state-graph m a q) x s ≡ None → Arrives x s) → Arrives p (l ∷ s)
       go true t o ih = (l ∷ [], s, refl, eqb-true _ _ t, ap (λ x. and-then (cond x None (Some (step-of m a p l .0))) (λ y. run (state-graph m a q) y [])) t)
       go false t o ih =

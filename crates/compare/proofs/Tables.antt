@@ -70,10 +70,13 @@ module _ (n : ℕ) (ps : List Pair) (table : List Bool) (size : n * n ≤ length
     where
       q : Pair
       q = getD ps i d
+
       listed-more : listed (take (i + 1) ps) p ≡ (listed (take i ps) p || same-pair (getD ps i d) p)
       listed-more = ap (λ (xs : List Pair). listed xs p) (take-more ps i d low) ∙ listed-push (take i ps) (getD ps i d) p
+
       room : pair-number n (getD ps i d) < length table
       room = let h = inside-parts n (getD ps i d) q-inside in let b = pair-number-below n (getD ps i d) (h .0) (h .1) in omega arith
+
       go : (t : Bool) → same-pair (getD ps i d) p ≡ t → in-table n (set table (pair-number n (getD ps i d)) true) p ≡ listed (take (i + 1) ps) p
       go true e =
           let one = same-pair-is (getD ps i d) p e in

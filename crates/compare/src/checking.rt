@@ -41,13 +41,27 @@ fn enlist(states: u16, pairs: &[Pair], table: &mut [bool]) -> bool
 }
 
 // What is wrong at one pair and one letter, if anything.
-fn check_letter<D: Device>(device: &D, first: u16, second: u16, table: &[bool], place: usize, pair: Pair, letter: u8) -> Option<Finding>
+fn check_letter<D: Device>(
+    device: &D,
+    first: u16,
+    second: u16,
+    table: &[bool],
+    place: usize,
+    pair: Pair,
+    letter: u8,
+) -> Option<Finding>
     requires { ⌜ length (now table) ≡ 65536 ⌝ }
     ensures { λ r. ⌜ r ≡ flaw-at (meaning (now (device .entry))) first second (in-table (meaning (now (device .entry)) .states) (now (table .entry))) place pair letter ⌝ }
 {
     let (p, x) = device.step(first, pair.first, letter);
     let (q, y) = device.step(second, pair.second, letter);
-    let known = table[pair_number(device.states(), Pair { first: p, second: q })];
+    let known = table[pair_number(
+        device.states(),
+        Pair {
+            first: p,
+            second: q,
+        },
+    )];
     if outputs_differ(x, y) {
         Some(Finding::OutputsDiffer { place, letter })
     } else if known {
@@ -58,7 +72,15 @@ fn check_letter<D: Device>(device: &D, first: u16, second: u16, table: &[bool], 
 }
 
 // What is wrong at one pair, at the least of the first letters.
-fn check_letters<D: Device>(device: &D, first: u16, second: u16, table: &[bool], place: usize, pair: Pair, letters: u8) -> Option<Finding>
+fn check_letters<D: Device>(
+    device: &D,
+    first: u16,
+    second: u16,
+    table: &[bool],
+    place: usize,
+    pair: Pair,
+    letters: u8,
+) -> Option<Finding>
     requires { ⌜ length (now table) ≡ 65536 ⌝ }
     ensures { λ r. ⌜ r ≡ flaw-at-letters (meaning (now (device .entry))) first second (in-table (meaning (now (device .entry)) .states) (now (table .entry))) place pair 0 letters ⌝ }
 {
@@ -72,7 +94,14 @@ fn check_letters<D: Device>(device: &D, first: u16, second: u16, table: &[bool],
 }
 
 // What is wrong at one pair, at the least letter.
-fn check_pair<D: Device>(device: &D, first: u16, second: u16, table: &[bool], place: usize, pair: Pair) -> Option<Finding>
+fn check_pair<D: Device>(
+    device: &D,
+    first: u16,
+    second: u16,
+    table: &[bool],
+    place: usize,
+    pair: Pair,
+) -> Option<Finding>
     requires { ⌜ length (now table) ≡ 65536 ⌝ }
     ensures { λ r. ⌜ r ≡ flaw-at-letters (meaning (now (device .entry))) first second (in-table (meaning (now (device .entry)) .states) (now (table .entry))) place pair 0 (meaning (now (device .entry)) .letters) ⌝ }
 {
@@ -80,7 +109,13 @@ fn check_pair<D: Device>(device: &D, first: u16, second: u16, table: &[bool], pl
 }
 
 // What is wrong at the least place.
-fn check_pairs<D: Device>(device: &D, first: u16, second: u16, table: &[bool], pairs: &[Pair]) -> Option<Finding>
+fn check_pairs<D: Device>(
+    device: &D,
+    first: u16,
+    second: u16,
+    table: &[bool],
+    pairs: &[Pair],
+) -> Option<Finding>
     requires size { ⌜ length (now table) ≡ 65536 ⌝ }
     requires tabled { ⌜ Table-of (meaning (now device) .states) (now pairs) (now table) ⌝ }
     ensures { λ r. ⌜ r ≡ flaw-at-places (meaning (now (device .entry))) first second (listed (now (pairs .entry))) 0 (now (pairs .entry)) ⌝ }
@@ -95,7 +130,13 @@ fn check_pairs<D: Device>(device: &D, first: u16, second: u16, table: &[bool], p
 }
 
 // Whether the pair of resets is listed.
-fn lists_reset<D: Device>(device: &D, first: u16, second: u16, table: &[bool], pairs: &[Pair]) -> bool
+fn lists_reset<D: Device>(
+    device: &D,
+    first: u16,
+    second: u16,
+    table: &[bool],
+    pairs: &[Pair],
+) -> bool
     requires size { ⌜ length (now table) ≡ 65536 ⌝ }
     requires tabled { ⌜ Table-of (meaning (now device) .states) (now pairs) (now table) ⌝ }
     ensures { λ r. ⌜ r ≡ listed (now (pairs .entry)) (reset-pair (meaning (now (device .entry))) first second) ⌝ }
@@ -119,7 +160,12 @@ fn find<D: Device>(device: &D, first: u16, second: u16, table: &[bool], pairs: &
 }
 
 // The refusals, and then what is found.
-fn check_list<D: Device>(device: &D, first: u16, second: u16, pairs: &[Pair]) -> Result<Finding, Refusal>
+fn check_list<D: Device>(
+    device: &D,
+    first: u16,
+    second: u16,
+    pairs: &[Pair],
+) -> Result<Finding, Refusal>
     ensures { λ r. ⌜ r ≡ checked (meaning (now (device .entry))) first second (now (pairs .entry)) ⌝ }
 {
     let members = device.members();
@@ -134,7 +180,12 @@ fn check_list<D: Device>(device: &D, first: u16, second: u16, pairs: &[Pair]) ->
 }
 
 // Checks a list of pairs for two members: whether it is closed, or the first thing that is wrong with it. A closed list shows that the members are equivalent.
-pub fn check<D: Device>(device: &D, first: u16, second: u16, pairs: &[Pair]) -> Result<Finding, Refusal>
+pub fn check<D: Device>(
+    device: &D,
+    first: u16,
+    second: u16,
+    pairs: &[Pair],
+) -> Result<Finding, Refusal>
     ensures answer { λ r. ⌜ r ≡ checked (meaning (now (device .entry))) first second (now (pairs .entry)) ⌝ }
     ensures proof { λ r. ⌜ (r ≡ Ok Finding.Closed → Equivalent (meaning (now (device .entry))) first second) ⌝ }
 {

@@ -12,17 +12,35 @@ use search::Visit;
 use search::shortest;
 
 // Searches for the least sequence that leads a member from reset to another state.
-fn search_states<D: Device>(device: &D, member: u16, wanted: u16, visits: &mut [Visit<u16>], marks: &mut [u32], letters: &mut [u8]) -> Found
+fn search_states<D: Device>(
+    device: &D,
+    member: u16,
+    wanted: u16,
+    visits: &mut [Visit<u16>],
+    marks: &mut [u32],
+    letters: &mut [u8],
+) -> Found
     requires { ⌜ (reset-of (meaning (now device)) member ≡ wanted → ⊥) ⌝ }
     ensures { λ r. ⌜ States-searched (meaning (now (device .entry))) member wanted (length (now (visits .entry))) (length (now (marks .entry))) (now (letters .entry)) r (now (letters .exit)) ⌝ }
 {
-    let walk = StateWalk { device, member, wanted };
+    let walk = StateWalk {
+        device,
+        member,
+        wanted,
+    };
     shortest(&walk, visits, marks, letters)
 }
 
 // Reaches a state of a member: the least sequence that leads there from reset goes into `letters`; it is empty for the reset state.
 // The work slices `visits` and `marks` have an entry for each state; what they hold does not matter and is lost.
-pub fn reach<D: Device>(device: &D, member: u16, wanted: u16, visits: &mut [Visit<u16>], marks: &mut [u32], letters: &mut [u8]) -> Result<Reached, Refusal>
+pub fn reach<D: Device>(
+    device: &D,
+    member: u16,
+    wanted: u16,
+    visits: &mut [Visit<u16>],
+    marks: &mut [u32],
+    letters: &mut [u8],
+) -> Result<Reached, Refusal>
     ensures { λ r. ⌜ Reaches (meaning (now (device .entry))) member wanted (length (now (visits .entry))) (length (now (marks .entry))) (now (letters .entry)) r (now (letters .exit)) ⌝ }
 {
     if member >= device.members() {

@@ -27,11 +27,18 @@ fn letters_below(count: u8, sequence: &[u8]) -> bool
 pub fn is_legal<D: Device>(device: &D, sequence: &[u8]) -> bool
     ensures { λ r. ⌜ r ≡ legal (meaning (now (device .entry)) .letters) (now (sequence .entry)) ⌝ }
 {
-    sequence.len() > 0 && sequence.len() <= MOST_LETTERS && letters_below(device.letters(), sequence)
+    sequence.len() > 0
+        && sequence.len() <= MOST_LETTERS
+        && letters_below(device.letters(), sequence)
 }
 
 // The first place, counted from 0, at which the outputs of two members along the sequence differ.
-pub fn first_difference<D: Device>(device: &D, first: u16, second: u16, sequence: &[u8]) -> Option<usize>
+pub fn first_difference<D: Device>(
+    device: &D,
+    first: u16,
+    second: u16,
+    sequence: &[u8],
+) -> Option<usize>
     ensures { λ r. ⌜ r ≡ first-difference (meaning (now (device .entry))) first second (now (sequence .entry)) ⌝ }
 {
     let mut p = device.reset(first);
@@ -49,7 +56,12 @@ pub fn first_difference<D: Device>(device: &D, first: u16, second: u16, sequence
 }
 
 // Replays a sequence on two members: the first place with outputs that differ, or none.
-pub fn replay<D: Device>(device: &D, first: u16, second: u16, sequence: &[u8]) -> Result<Option<usize>, Refusal>
+pub fn replay<D: Device>(
+    device: &D,
+    first: u16,
+    second: u16,
+    sequence: &[u8],
+) -> Result<Option<usize>, Refusal>
     ensures { λ r. ⌜ r ≡ replayed (meaning (now (device .entry))) first second (now (sequence .entry)) ⌝ }
 {
     let members = device.members();

@@ -41,6 +41,10 @@ pub(crate) impl<'a, D: Device> Walk for StateWalk<'a, D> as StateWalkWalk {
 
     fn step(&self, position: u16, letter: u8) -> Option<u16> {
         let (next, _output) = self.device.step(self.member, position, letter);
-        if next == self.wanted { None } else { Some(next) }
+        if next == self.wanted {
+            None
+        } else {
+            Some(next)
+        }
     }
 }

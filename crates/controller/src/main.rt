@@ -1,6 +1,11 @@
-// Takes in a small controller with three faulty versions, and sets its good machine beside each of them.
+// Takes in a small controller with three faulty versions, sets its good machine beside each of them, confirms each verdict, and reaches every state.
+use compare::Finding;
+use compare::Reached;
 use compare::Verdict;
+use compare::check;
 use compare::compare;
+use compare::reach;
+use compare::replay;
 use devices::AlteredCell;
 use devices::Cell;
 use devices::Table;
@@ -74,7 +79,40 @@ fn show_pairs(rt: &LibcRuntime, pairs: &[Pair]) -> io::Result<()> {
     Ok(())
 }
 
-// Compares member 0 with another and prints the verdict.
+fn show_refusal(rt: &LibcRuntime, refusal: Refusal) -> io::Result<()> {
+    let number = refusal.number();
+    println!(rt, "refused {number}")
+}
+
+// Replays a sequence on member 0 and another, and prints where the outputs first differ.
+fn show_replay(rt: &LibcRuntime, table: &Table, member: u16, letters: &[u8]) -> io::Result<()> {
+    print!(rt, "  replayed: ")?;
+    match replay(table, 0, member, letters) {
+        Ok(Some(place)) => println!(rt, "outputs differ at place {place}"),
+        Ok(None) => println!(rt, "no difference"),
+        Err(refusal) => show_refusal(rt, refusal),
+    }
+}
+
+// Checks a list of pairs for member 0 and another, and prints the finding.
+fn show_check(rt: &LibcRuntime, table: &Table, member: u16, pairs: &[Pair]) -> io::Result<()> {
+    print!(rt, "  checked: ")?;
+    match check(table, 0, member, pairs) {
+        Ok(Finding::Closed) => println!(rt, "closed"),
+        Ok(Finding::NoResetPair) => println!(rt, "no reset pair"),
+        Ok(Finding::OutputsDiffer { place, letter }) => println!(
+            rt,
+            "outputs differ at place {place}, letter {letter}"
+        ),
+        Ok(Finding::SuccessorMissing { place, letter }) => println!(
+            rt,
+            "successor missing at place {place}, letter {letter}"
+        ),
+        Err(refusal) => show_refusal(rt, refusal),
+    }
+}
+
+// Compares member 0 with another, prints the verdict, and confirms it: a sequence by replaying it, a list of pairs by checking it.
 fn show_comparison(rt: &LibcRuntime, table: &Table, member: u16) -> io::Result<()> {
     let mut visits = [Visit {
         position: Pair {
@@ -90,6 +128,7 @@ fn show_comparison(rt: &LibcRuntime, table: &Table, member: u16) -> io::Result<(
         first: 0,
         second: 0,
     }; PAIRS];
+    print!(rt, "0 with {member}: ")?;
     match compare(
         table,
         0,
@@ -100,17 +139,37 @@ fn show_comparison(rt: &LibcRuntime, table: &Table, member: u16) -> io::Result<(
         &mut pairs,
     ) {
         Ok(Verdict::Differ { length }) => {
-            print!(rt, "0 with {member}: differ {length}:")?;
-            show_letters(rt, &letters[0..length])
+            print!(rt, "differ {length}:")?;
+            show_letters(rt, &letters[0..length])?;
+            show_replay(rt, table, member, &letters[0..length])
         }
         Ok(Verdict::Equivalent { count }) => {
-            println!(rt, "0 with {member}: equivalent {count}:")?;
-            show_pairs(rt, &pairs[0..count])
+            println!(rt, "equivalent {count}:")?;
+            show_pairs(rt, &pairs[0..count])?;
+            show_check(rt, table, member, &pairs[0..count])
         }
-        Err(refusal) => {
-            let number = refusal.number();
-            println!(rt, "0 with {member}: refused {number}")
+        Err(refusal) => show_refusal(rt, refusal),
+    }
+}
+
+// Prints the least sequence that leads a member from reset to a state.
+fn show_reach(rt: &LibcRuntime, table: &Table, member: u16, state: u16) -> io::Result<()> {
+    let mut visits = [Visit {
+        position: 0u16,
+        from: 0,
+        letter: 0,
+    }; STATES];
+    let mut marks = [0u32; STATES];
+    let mut letters = [0u8; STATES];
+    let name = name(state);
+    print!(rt, "member {member} reaches {name}: ")?;
+    match reach(table, member, state, &mut visits, &mut marks, &mut letters) {
+        Ok(Reached::By { length }) => {
+            print!(rt, "by {length}:")?;
+            show_letters(rt, &letters[0..length])
         }
+        Ok(Reached::Unreachable) => println!(rt, "unreachable"),
+        Err(refusal) => show_refusal(rt, refusal),
     }
 }
 
@@ -122,6 +181,9 @@ fn main(rt: LibcRuntime) -> io::Result<()> {
     }
     for member in 0..4 {
         show_comparison(&rt, &table, member)?;
+    }
+    for state in 0..4 {
+        show_reach(&rt, &table, 0, state)?;
     }
     Ok(())
 }

@@ -1,6 +1,11 @@
 // The edges of each call on a small controller: sizes that just do, sizes one short, numbers out of range, and work slices full of anything.
+use compare::Finding;
+use compare::Reached;
 use compare::Verdict;
+use compare::check;
 use compare::compare;
+use compare::reach;
+use compare::replay;
 use devices::AlteredCell;
 use devices::Cell;
 use devices::Table;
@@ -469,17 +474,304 @@ fn try_intake(rt: &LibcRuntime, case: Intake) -> io::Result<()> {
     )
 }
 
+fn show_refusal(rt: &LibcRuntime, refusal: Refusal) -> io::Result<()> {
+    let number = refusal.number();
+    println!(rt, "refused {number}")
+}
+
+fn show_letters(rt: &LibcRuntime, letters: &[u8]) -> io::Result<()> {
+    for letter in letters {
+        print!(rt, " {letter}")?;
+    }
+    Ok(())
+}
+
+fn try_replay(
+    rt: &LibcRuntime,
+    table: &Table,
+    first: u16,
+    second: u16,
+    sequence: &[u8],
+) -> io::Result<()> {
+    print!(rt, "replay on {first} and {second}:")?;
+    if sequence.len() < 10 {
+        show_letters(rt, sequence)?;
+    }
+    let length = sequence.len();
+    print!(rt, " ({length} letters): ")?;
+    match replay(table, first, second, sequence) {
+        Ok(Some(place)) => println!(rt, "place {place}"),
+        Ok(None) => println!(rt, "none"),
+        Err(refusal) => show_refusal(rt, refusal),
+    }
+}
+
+// Sequences on the controller: with no difference, with one at the end, empty, too long, and letters out of range.
+fn try_replays(rt: &LibcRuntime, table: &Table) -> io::Result<()> {
+    try_replay(rt, table, 0, 1, &[0, 1, 0, 1])?;
+    try_replay(rt, table, 0, 1, &[0, 1, 0, 1, 1])?;
+    try_replay(rt, table, 1, 0, &[0, 1, 0, 1, 1, 0, 0])?;
+    try_replay(rt, table, 0, 3, &[1])?;
+    try_replay(rt, table, 0, 1, &[])?;
+    try_replay(rt, table, 0, 1, &[0, 1, 2])?;
+    try_replay(rt, table, 0, 4, &[0, 9])?;
+    let long = [0u8; 16385];
+    try_replay(rt, table, 0, 1, &long[0..16384])?;
+    try_replay(rt, table, 0, 1, &long)
+}
+
+// One state and 64 letters: the last letter does, the next does not.
+fn try_last_letter(rt: &LibcRuntime) -> io::Result<()> {
+    let cells = [Cell { next: 0, output: 5 }; 64];
+    let altered = [AlteredCell {
+        state: 0,
+        letter: 63,
+        next: 0,
+        output: 6,
+    }];
+    let mut table = Table::idle();
+    match table.take_in(6, 1, 0, &cells, &altered) {
+        Ok(()) => {
+            try_replay(rt, &table, 0, 1, &[62, 63])?;
+            try_replay(rt, &table, 0, 1, &[62, 64])
+        }
+        Err(refusal) => show_refusal(rt, refusal),
+    }
+}
+
+// A state to be reached: the member, the state, and the slices' lengths.
+#[derive(Clone, Copy)]
+struct Reaching {
+    member: u16,
+    wanted: u16,
+    visits: usize,
+    marks: usize,
+    letters: usize,
+}
+
+const REACHINGS: [Reaching; 10] = [
+    Reaching {
+        member: 0,
+        wanted: 3,
+        visits: 4,
+        marks: 4,
+        letters: 3,
+    },
+    Reaching {
+        member: 0,
+        wanted: 3,
+        visits: 4,
+        marks: 4,
+        letters: 2,
+    },
+    Reaching {
+        member: 0,
+        wanted: 3,
+        visits: 3,
+        marks: 4,
+        letters: 3,
+    },
+    Reaching {
+        member: 0,
+        wanted: 3,
+        visits: 4,
+        marks: 3,
+        letters: 3,
+    },
+    Reaching {
+        member: 0,
+        wanted: 0,
+        visits: 4,
+        marks: 4,
+        letters: 0,
+    },
+    Reaching {
+        member: 0,
+        wanted: 0,
+        visits: 3,
+        marks: 4,
+        letters: 0,
+    },
+    Reaching {
+        member: 0,
+        wanted: 4,
+        visits: 0,
+        marks: 0,
+        letters: 0,
+    },
+    Reaching {
+        member: 4,
+        wanted: 4,
+        visits: 0,
+        marks: 0,
+        letters: 0,
+    },
+    Reaching {
+        member: 1,
+        wanted: 2,
+        visits: 6,
+        marks: 6,
+        letters: 6,
+    },
+    Reaching {
+        member: 3,
+        wanted: 1,
+        visits: 4,
+        marks: 4,
+        letters: 1,
+    },
+];
+
+fn show_reach(
+    rt: &LibcRuntime,
+    table: &Table,
+    case: Reaching,
+    visits: &mut [Visit<u16>],
+    marks: &mut [u32],
+    letters: &mut [u8],
+) -> io::Result<()> {
+    let member = case.member;
+    let wanted = case.wanted;
+    let v = visits.len();
+    let w = marks.len();
+    print!(rt, "reach {wanted} of {member}, {v} visits, {w} marks: ")?;
+    match reach(table, member, wanted, visits, marks, letters) {
+        Ok(Reached::By { length }) => print!(rt, "by {length}")?,
+        Ok(Reached::Unreachable) => print!(rt, "unreachable")?,
+        Err(refusal) => {
+            let number = refusal.number();
+            print!(rt, "refused {number}")?
+        }
+    }
+    print!(rt, "; letters")?;
+    show_letters(rt, letters)?;
+    println!(rt, "")
+}
+
+fn try_reach(rt: &LibcRuntime, table: &Table, case: Reaching) -> io::Result<()> {
+    let mut visits = [Visit {
+        position: 7u16,
+        from: 7,
+        letter: 7,
+    }; 8];
+    let mut marks = [7u32; 8];
+    let mut letters = [9u8; 8];
+    let v = case.visits.min(8);
+    let w = case.marks.min(8);
+    let l = case.letters.min(8);
+    show_reach(
+        rt,
+        table,
+        case,
+        &mut visits[0..v],
+        &mut marks[0..w],
+        &mut letters[0..l],
+    )
+}
+
+// A state that no letter leads to.
+fn try_unreachable(rt: &LibcRuntime) -> io::Result<()> {
+    let cells = [Cell { next: 0, output: 0 }; 4];
+    let mut table = Table::idle();
+    match table.take_in(1, 2, 0, &cells, &[]) {
+        Ok(()) => try_reach(
+            rt,
+            &table,
+            Reaching {
+                member: 0,
+                wanted: 1,
+                visits: 2,
+                marks: 2,
+                letters: 2,
+            },
+        ),
+        Err(refusal) => show_refusal(rt, refusal),
+    }
+}
+
+fn try_check(
+    rt: &LibcRuntime,
+    table: &Table,
+    first: u16,
+    second: u16,
+    pairs: &[Pair],
+) -> io::Result<()> {
+    print!(rt, "check for {first} and {second}")?;
+    for pair in pairs {
+        let p = pair.first;
+        let q = pair.second;
+        print!(rt, " {p}-{q}")?;
+    }
+    print!(rt, ": ")?;
+    match check(table, first, second, pairs) {
+        Ok(Finding::Closed) => println!(rt, "closed"),
+        Ok(Finding::NoResetPair) => println!(rt, "no reset pair"),
+        Ok(Finding::OutputsDiffer { place, letter }) => println!(
+            rt,
+            "outputs differ, place {place}, letter {letter}"
+        ),
+        Ok(Finding::SuccessorMissing { place, letter }) => println!(
+            rt,
+            "successor missing, place {place}, letter {letter}"
+        ),
+        Err(refusal) => show_refusal(rt, refusal),
+    }
+}
+
+// Lists of pairs: whole, in another order, with a pair twice, without the last, without the first, empty, with unequal outputs, out of range.
+fn try_checks(rt: &LibcRuntime, table: &Table) -> io::Result<()> {
+    let a = Pair {
+        first: 0,
+        second: 0,
+    };
+    let b = Pair {
+        first: 1,
+        second: 1,
+    };
+    let c = Pair {
+        first: 2,
+        second: 2,
+    };
+    let d = Pair {
+        first: 3,
+        second: 3,
+    };
+    let off = Pair {
+        first: 0,
+        second: 2,
+    };
+    let past = Pair {
+        first: 0,
+        second: 4,
+    };
+    try_check(rt, table, 0, 2, &[a, b, c, d])?;
+    try_check(rt, table, 0, 2, &[d, c, b, b, a])?;
+    try_check(rt, table, 0, 2, &[a, b, c])?;
+    try_check(rt, table, 0, 2, &[b, c, d])?;
+    try_check(rt, table, 0, 2, &[])?;
+    try_check(rt, table, 0, 2, &[off, a, b, c, d])?;
+    try_check(rt, table, 0, 3, &[a, b, c, d])?;
+    try_check(rt, table, 0, 3, &[a])?;
+    try_check(rt, table, 0, 2, &[a, past])?;
+    try_check(rt, table, 0, 4, &[past])
+}
+
 fn main(rt: LibcRuntime) -> io::Result<()> {
     for case in INTAKES {
         try_intake(&rt, case)?;
     }
     let mut table = Table::idle();
     if let Err(refusal) = table.take_in(1, 4, 0, &CELLS, &ALTERED) {
-        let number = refusal.number();
-        return println!(rt, "the table is refused by {number}");
+        return show_refusal(&rt, refusal);
     }
     for case in COMPARISONS {
         try_comparison(&rt, &table, case)?;
     }
-    Ok(())
+    try_replays(&rt, &table)?;
+    try_last_letter(&rt)?;
+    for case in REACHINGS {
+        try_reach(&rt, &table, case)?;
+    }
+    try_unreachable(&rt)?;
+    try_checks(&rt, &table)
 }

@@ -1,5 +1,7 @@
-// The largest comparison: 256 states and 64 letters, with every one of the 65,536 pairs reached.
+// The largest comparison and check: 256 states and 64 letters, with every one of the 65,536 pairs reached.
+use compare::Finding;
 use compare::Verdict;
+use compare::check;
 use compare::compare;
 use devices::AlteredCell;
 use devices::Cell;
@@ -58,6 +60,24 @@ const ALTERED: [AlteredCell; 2] = [
     },
 ];
 
+// Checks the pairs that were found.
+fn show_check(
+    rt: &LibcRuntime,
+    table: &Table,
+    second: u16,
+    pairs: &[Pair],
+) -> Result<(), AnyError> {
+    match check(table, 0, second, pairs) {
+        Ok(Finding::Closed) => println!(rt, "0 with {second}: closed")?,
+        Ok(_) => println!(rt, "0 with {second}: not closed")?,
+        Err(refusal) => {
+            let number = refusal.number();
+            println!(rt, "0 with {second}: refused {number}")?
+        }
+    }
+    Ok(())
+}
+
 fn show(rt: &LibcRuntime, table: &Table, second: u16) -> Result<(), AnyError> {
     let heap = rt.alloc();
     let mut visits = vec![in heap; Visit {
@@ -84,7 +104,12 @@ fn show(rt: &LibcRuntime, table: &Table, second: u16) -> Result<(), AnyError> {
         &mut pairs,
     ) {
         Ok(Verdict::Differ { length }) => println!(rt, "0 with {second}: differ {length}")?,
-        Ok(Verdict::Equivalent { count }) => println!(rt, "0 with {second}: equivalent {count}")?,
+        Ok(Verdict::Equivalent { count }) => {
+            println!(rt, "0 with {second}: equivalent {count}")?;
+            if count <= pairs.len() {
+                show_check(rt, table, second, &pairs.as_slice()[0..count])?;
+            }
+        }
         Err(refusal) => {
             let number = refusal.number();
             println!(rt, "0 with {second}: refused {number}")?

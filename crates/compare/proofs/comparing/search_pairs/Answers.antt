@@ -16,7 +16,7 @@ use Rattle.compare.proofs.comparing.search_pairs.Needs as need
 
 in-pairs : (m : Machine) → Sound m → (a b v w : ℕ) (old : List ℕ) (r : Found) (xs : List (Visit Pair)) (new : List ℕ) → Finds (pair-graph m a b) v w old r xs new → Pairs-searched m a b v w old r xs new
 in-pairs m sound a b v w old (Goal n) xs new f = let s = f .1 in (f .0, (s .0, least-distinguishing m a b (s .0) (s .1), s .2, s .3))
-in-pairs m sound a b v w old (Exhausted n) xs new f = 
+in-pairs m sound a b v w old (Exhausted n) xs new f =
     let same = equivalent m a b xs n (f .1) in
     let reached = reachable-pairs m a b xs n (f .1) in
     let qs = positions (take n xs) in
