@@ -179,7 +179,7 @@ fn check_list<D: Device>(
     Ok(find(device, first, second, &table, pairs))
 }
 
-// Checks a list of pairs for two members: whether it is closed, or the first thing that is wrong with it. A closed list shows that the members are equivalent.
+// Whether a list of pairs is closed for two members, or the first thing that is wrong with it. A closed list shows that they are equivalent.
 pub fn check<D: Device>(
     device: &D,
     first: u16,
