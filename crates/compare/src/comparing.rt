@@ -13,8 +13,8 @@ use search::Found;
 use search::Visit;
 use search::shortest;
 
-// Searches for the least sequence that distinguishes two members.
-pub(crate) fn search_pairs<D: Device>(
+// Searches for the least sequence that distinguishes two members, which goes into `letters`. Where none does, the visits are left as the reachable pairs.
+pub fn search_pairs<D: Device>(
     device: &D,
     first: u16,
     second: u16,

@@ -12,6 +12,7 @@ mod verdict;
 
 pub use checking::check;
 pub use comparing::compare;
+pub use comparing::search_pairs;
 pub use finding::Finding;
 pub use reached::Reached;
 pub use reaching::reach;

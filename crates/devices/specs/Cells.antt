@@ -1,16 +1,12 @@
 -- The cells of a table and of its faults, and when their states and letters are in range.
-use mathlib.Core.Bool.{Bool, true, cond, _&&_}
-use mathlib.Core.List.{List, [], _∷_}
+use mathlib.Core.Bool.{Bool, cond, _&&_}
+use mathlib.Core.List.{List}
 use Prim.Native.Nat.{ℕ, _+_, _-_, _*_}
 use lib.Dec.{eqb, ltb}
 use lib.ListN.{getD}
+use Rattle.machine.specs.Lists.{all}
 use Rattle.devices.specs.declared.cell.Cell.{Cell}
 use Rattle.devices.specs.declared.cell.AlteredCell.{AlteredCell}
-
--- each element passes the test
-abbrev pub all : {X : Type 0} → (X → Bool) → List X → Bool
-all test [] = true
-all test (x ∷ xs) = test x && all test xs
 
 -- the cell leads to a state
 abbrev pub cell-inside : ℕ → Cell → Bool

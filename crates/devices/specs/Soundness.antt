@@ -1,8 +1,7 @@
 -- The ranges of a table, from its ghost fields.
-use mathlib.Core.Bool.{Bool, true}
+use mathlib.Core.Bool.{true}
 use mathlib.Core.Path.{_≡_, subst}
-use mathlib.Core.List.{List, [], _∷_}
-use Prim.Native.Nat.{ℕ, zero, suc, _+_, _-_, _*_, _<_}
+use Prim.Native.Nat.{ℕ, _+_, _-_, _*_, _<_}
 use native.Mathlib.Omega.{arith}
 use denote.Ref.{now}
 use lib.Dec.{eqb, ltb}
@@ -11,16 +10,11 @@ use Rattle.std.proofs.shelf.Bits.{mul-add-lt}
 use Rattle.std.proofs.shelf.Lists.{length-take-le, getD-take}
 use Rattle.std.proofs.shelf.Tests.{and-parts, ltb-true, eqb-false, cond-both}
 use Rattle.machine.specs.Machines.{Sound}
-use Rattle.devices.specs.Cells.{all, cell-inside, altered-cell-inside, good-cell, no-cell, no-altered-cell}
+use Rattle.machine.proofs.All.{all-at}
+use Rattle.devices.specs.Cells.{cell-inside, altered-cell-inside, good-cell, no-cell, no-altered-cell}
 use Rattle.devices.specs.Tables.{machine-of}
 use Rattle.devices.specs.declared.cell.Cell.{Cell}
 use Rattle.devices.specs.declared.table.Table.{Table}
-
--- what holds of all holds of each
-all-at : {X : Type 0} (test : X → Bool) (xs : List X) (i : ℕ) (d : X) → i < length xs → all test xs ≡ true → test (getD xs i d) ≡ true
-all-at test [] i d h p = absurd (omega arith)
-all-at test (x ∷ xs) zero d h p = and-parts _ _ p .0
-all-at test (x ∷ xs) (suc i) d h p = all-at test xs i d (omega arith) (and-parts (test x) _ p .1)
 
 -- a good cell leads to a state
 good-inside : (t : Table) (q l : ℕ) → q < t .states → l < t .letters → good-cell (t .letters) (now (t .cells)) q l .next < t .states

@@ -1,6 +1,6 @@
 use mathlib.Core.Path.{sym, _∙_}
 use Rattle.devices.specs.Cells.{altered-cell-inside}
-use Rattle.devices.proofs.All.{all-more, all-stops, all-ends}
+use Rattle.machine.proofs.All.{all-more, all-stops, all-ends}
 use Rattle.devices.proofs.ranges.altered_inside.Needs as need
 
 pub returns-then-not-altered-cell-inside : need.returns-then-not-altered-cell-inside
