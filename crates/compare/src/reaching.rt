@@ -1,4 +1,5 @@
 ghost use mathlib.Core.Path.{_≡_};
+ghost use lib.Dec.{eqb};
 ghost use lib.ListN.{length};
 ghost use Rattle.machine.specs.Machines.{reset-of};
 ghost use Rattle.compare.specs.Reaches.{Reaches, States-searched};
@@ -10,6 +11,13 @@ use machine::Refusal;
 use search::Found;
 use search::Visit;
 use search::shortest;
+
+// Whether a member is in the state from reset, with no letter at all.
+fn is_reset_state<D: Device>(device: &D, member: u16, state: u16) -> bool
+    ensures { λ r. ⌜ r ≡ eqb (reset-of (meaning (now (device .entry))) member) state ⌝ }
+{
+    device.reset(member) == state
+}
 
 // Searches for the least sequence that leads a member from reset to another state.
 fn search_states<D: Device>(
@@ -53,7 +61,7 @@ pub fn reach<D: Device>(
     if visits.len() < states as usize || marks.len() < states as usize {
         return Err(Refusal::WorkTooShort);
     }
-    if device.reset(member) == wanted {
+    if is_reset_state(device, member, wanted) {
         return Ok(Reached::By { length: 0 });
     }
     match search_states(device, member, wanted, visits, marks, letters) {
