@@ -12,6 +12,7 @@ pub record Entry : Type 0 where
   pub letters : List ℕ
   pub origin : ℕ
 
+-- the sequence s with an origin
 abbrev pub entry : List ℕ → ℕ → Entry
 entry s o = record { letters = s; origin = o }
 

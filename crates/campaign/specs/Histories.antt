@@ -41,6 +41,7 @@ call-of (admitted s r) = admit s
 call-of (marked-as f r) = mark f
 call-of (was-read n old place r new) = read-out n old place
 
+-- the calls of some events
 abbrev pub calls : List Event → List Call
 calls es = map call-of es
 

@@ -19,7 +19,7 @@ use Rattle.machine.specs.declared.pair.Pair.{Pair}
 use Rattle.machine.specs.declared.refusal.Refusal.the-variants.{NoSuchMember, OutOfRange}
 use Rattle.compare.specs.Checks.{pair-inside, pairs-inside, listed, next-pair, flaw-at-places, finding, checked}
 use Rattle.compare.specs.Replays.{are-members}
-use Rattle.compare.specs.Soundness.{reset-below, next-below}
+use Rattle.machine.proofs.Ranges.{reset-below, next-below}
 use Rattle.compare.specs.declared.finding.Finding.{Finding}
 use Rattle.compare.specs.declared.finding.Finding.the-variants.{Closed, NoResetPair}
 use Rattle.compare.proofs.Flaws.{Good, places-good, good-places, closed-none}

@@ -13,7 +13,8 @@ use Rattle.machine.specs.Machines.{Machine, Sound}
 use Rattle.machine.specs.Products.{pair, reset-pair}
 use Rattle.machine.specs.declared.pair.Pair.{Pair}
 use Rattle.compare.specs.Checks.{pair-inside, listed, next-pair, in-table, Table-of}
-use Rattle.compare.specs.Soundness.{reset-below, next-below, pair-number-same, pair-number-below}
+use Rattle.machine.proofs.Ranges.{reset-below, next-below}
+use Rattle.compare.specs.Soundness.{pair-number-same, pair-number-below}
 use Rattle.compare.specs.Walks.{pair-number}
 
 -- a list of one value has it everywhere, and past its end by default

@@ -5,25 +5,15 @@ use Prim.Native.Nat.{ℕ, _+_, _*_, _/_, _%_, _≤_, _<_}
 use native.Mathlib.Omega.{arith}
 use native.Mathlib.Nat.{mul-le-mul}
 use lib.Arith.{digits-lt, digits-div, digits-mod}
-use lib.Dec.{eqb, ltb}
+use lib.Dec.{eqb}
 use Rattle.std.specs.declared.option.Option.the-variants.{Some, None}
-use Rattle.std.proofs.shelf.Tests.{cond-both, ltb-true}
-use Rattle.machine.specs.Machines.{Machine, Sound, within, reset-of, step-of}
+use Rattle.machine.specs.Machines.{Machine, Sound, step-of}
+use Rattle.machine.proofs.Ranges.{reset-below, next-below}
 use Rattle.machine.specs.Outputs.{differ}
 use Rattle.machine.specs.Products.{pair}
 use Rattle.machine.specs.declared.pair.Pair.{Pair}
 use Rattle.search.specs.Graphs.{Sound as Walk-sound}
 use Rattle.compare.specs.Walks.{pair-number, pair-step, pair-graph, Pair-inside, state-step, state-graph}
-
-within-below : (n x : ℕ) → 1 ≤ n → within n x < n
-within-below n x some = cond-both (ltb x n) x 0 (λ y. y < n) (λ e. ltb-true x n e) (λ e. some)
-
-module _ (m : Machine) (sound : Sound m) where
-  pub reset-below : (a : ℕ) → reset-of m a < m .states
-  reset-below a = sound .reset-inside _ (within-below (m .members) a (sound .some-member))
-
-  pub next-below : (a q l : ℕ) → step-of m a q l .0 < m .states
-  next-below a q l = sound .next-inside _ _ _ (within-below (m .members) a (sound .some-member)) (within-below (m .states) q (sound .some-state)) (within-below (m .letters) l (sound .some-letter))
 
 -- pairs of states below n are numbered apart, below n * n
 pub pair-number-same : (n : ℕ) (p q : Pair) → p .second < n → q .second < n → pair-number n p ≡ pair-number n q → p ≡ q

@@ -3,7 +3,8 @@ use Prim.Native.Nat.{ℕ, _*_, _<_}
 use native.Mathlib.Omega.{arith}
 use Rattle.machine.specs.Machines.{step-of}
 use Rattle.machine.specs.Products.{pair}
-use Rattle.compare.specs.Soundness.{next-below, pair-number-below, few-pairs}
+use Rattle.machine.proofs.Ranges.{next-below}
+use Rattle.compare.specs.Soundness.{pair-number-below, few-pairs}
 use Rattle.compare.specs.Walks.{pair-number}
 use Rattle.compare.proofs.checking.check_letter.Needs as need
 

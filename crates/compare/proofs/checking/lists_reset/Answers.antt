@@ -4,7 +4,8 @@ use Prim.Native.Nat.{ℕ}
 use native.Mathlib.Omega.{arith}
 use lib.ListN.{getD}
 use Rattle.machine.specs.Products.{reset-pair}
-use Rattle.compare.specs.Soundness.{reset-below, pair-number-below, few-pairs}
+use Rattle.machine.proofs.Ranges.{reset-below}
+use Rattle.compare.specs.Soundness.{pair-number-below, few-pairs}
 use Rattle.compare.specs.Walks.{pair-number}
 use Rattle.compare.proofs.Tables.{reset-inside}
 use Rattle.compare.proofs.checking.lists_reset.Needs as need
