@@ -354,6 +354,20 @@ fn piles(rt: &LibcRuntime, visits: &mut [Visit<Pair>], marks: &mut [u32]) -> io:
         visits,
         marks,
     )?;
+    show_pile(
+        rt,
+        "a pile of three",
+        &Observed::new(Tied::new(wrong, 3, 0), 1),
+        visits,
+        marks,
+    )?;
+    show_pile(
+        rt,
+        "controller, nothing seen",
+        &Observed::new(controller(), 0),
+        visits,
+        marks,
+    )?;
     run(
         rt,
         "campaign over a pile",
