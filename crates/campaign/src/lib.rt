@@ -1,4 +1,5 @@
 // A campaign: a whole fault list judged against the good machine, with the sequences that were kept.
+#![tactic(auto)]
 
 mod asking;
 mod campaign;

@@ -1,4 +1,6 @@
 // The edges of a campaign on a small controller: the order of judging, the last number and the last letter, and what a refusal leaves.
+#![tactic(auto)]
+
 use campaign::{Campaign, Judgement, Mark};
 use devices::{AlteredCell, Cell, Table};
 use machine::{Pair, Refusal};

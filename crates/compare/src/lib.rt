@@ -1,4 +1,5 @@
 // Questions about the members of a device: what tells two apart, where a sequence shows it, how a state is reached, and whether a list of pairs is closed.
+#![tactic(auto)]
 
 mod checking;
 mod comparing;

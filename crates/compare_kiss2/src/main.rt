@@ -1,4 +1,6 @@
 // Compares two state tables: reads good.kiss and faulty.kiss of the folder it is run in, and prints the report.
+#![tactic(auto)]
+
 use anyhow::anyhow;
 use devices::Cell;
 use kiss2::Part;

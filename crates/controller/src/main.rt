@@ -1,4 +1,6 @@
 // Takes in a small controller with three faulty versions, sets its good machine beside each of them, confirms each verdict, and reaches every state.
+#![tactic(auto)]
+
 use compare::{Finding, Reached, Verdict, check, compare, reach, replay};
 use devices::{AlteredCell, Cell, Table};
 use machine::{Pair, Refusal};

@@ -1,4 +1,5 @@
 // The devices: machines that a table of cells describes.
+#![tactic(auto)]
 
 mod cell;
 mod ranges;

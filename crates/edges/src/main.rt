@@ -1,4 +1,6 @@
 // The edges of each call on a small controller: sizes that just do, sizes one short, numbers out of range, and work slices full of anything.
+#![tactic(auto)]
+
 use compare::{Finding, Reached, Verdict, check, compare, reach, replay};
 use devices::{AlteredCell, Cell, Table};
 use machine::{Device, Pair, Refusal};

@@ -1,4 +1,6 @@
 // Runs whole campaigns: every fault of a small controller, and of a larger table that is made by rule.
+#![tactic(auto)]
+
 use campaign::{Campaign, Judgement, Mark};
 use devices::{AlteredCell, Cell, Table};
 use machine::{Device, Pair};

@@ -1,4 +1,6 @@
 // Gate lists: whole stuck-at campaigns on small circuits, a pile of layers over a table and a gate list, and many steps of the largest list.
+#![tactic(auto)]
+
 use campaign::{Campaign, Judgement, Mark};
 use compare::{Verdict, compare};
 use devices::{AlteredCell, Cell, Table};

@@ -1,4 +1,5 @@
 // Devices given by gate lists, with the stuck-at faults of their nets.
+#![tactic(auto)]
 
 mod gate;
 mod gates;

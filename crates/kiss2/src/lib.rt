@@ -1,4 +1,5 @@
 // State tables as text: the KISS2 layout, read into cells and names.
+#![tactic(auto)]
 
 mod digits;
 mod directives;

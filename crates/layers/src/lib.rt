@@ -1,4 +1,5 @@
 // Layers over devices: each is a device again.
+#![tactic(auto)]
 
 mod observed;
 mod rivals;

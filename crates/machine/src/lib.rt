@@ -1,4 +1,5 @@
 // What a device is: a family of clocked machines, and the refusals that every call shares.
+#![tactic(auto)]
 
 mod device;
 mod output;

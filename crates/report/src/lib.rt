@@ -1,4 +1,5 @@
 // The report over two state tables that are given as text.
+#![tactic(auto)]
 
 mod names;
 mod rendering;

@@ -1,4 +1,6 @@
 // The largest comparison and check: 256 states and 64 letters, with every one of the 65,536 pairs reached.
+#![tactic(auto)]
+
 use compare::{Finding, Verdict, check, compare};
 use devices::{AlteredCell, Cell, Table};
 use machine::{Pair, Refusal};

@@ -1,4 +1,5 @@
 // One breadth-first search for every kind of walk, and the least sequence that meets the walk's goal.
+#![tactic(auto)]
 
 mod breadth_first;
 mod found;

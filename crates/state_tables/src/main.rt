@@ -1,5 +1,7 @@
 // Reports over many texts, and names out of them. The input has a case behind each tilde: the sizes of the slices and a label, then the good and the faulty text, each behind a bar.
 // A faulty text of one equals sign stands for the good one.
+#![tactic(auto)]
+
 use devices::Cell;
 use kiss2::{Part, Side, name};
 use machine::{Pair, Refusal};

@@ -1,4 +1,5 @@
 // The worked controller: four states, one pin, three faults, and what is known of it.
+#![tactic(auto)]
 
 mod cases;
 
