@@ -22,8 +22,8 @@ impl<D: Device> Campaign<D> {
     pub fn make(device: D) -> Campaign<D>
         ensures device { result.device ≡ device }
         ensures fresh { Fresh (book result.ledger) }
-        ensures lawful { Lawful (meaning device) (book result.ledger) }
-        ensures once { KeptOnce (meaning device) }
+        ensures lawful { Lawful (D.meaning device) (book result.ledger) }
+        ensures once { KeptOnce (D.meaning device) }
     {
         Campaign {
             device,
@@ -39,7 +39,7 @@ impl<D: Device> Campaign<D> {
         visits: &mut [Visit<Pair>],
         marks: &mut [u32],
     ) -> Result<Judgement, Refusal>
-        ensures judged { Judged (meaning self.old.device) (book self.old.ledger) fault (length visits.old) (length marks.old) result (book self.new.ledger) }
+        ensures judged { Judged (D.meaning self.old.device) (book self.old.ledger) fault (length visits.old) (length marks.old) result (book self.new.ledger) }
         ensures device { self.new.device ≡ self.old.device }
     {
         judge_fault(&self.device, &mut self.ledger, fault, visits, marks)
@@ -47,7 +47,7 @@ impl<D: Device> Campaign<D> {
 
     // Keeps a client's sequence with origin 0: its number.
     pub fn admit(&mut self, sequence: &[u8]) -> Result<u16, Refusal>
-        ensures admitted { Admitted (meaning self.old.device) (book self.old.ledger) sequence.now result (book self.new.ledger) }
+        ensures admitted { Admitted (D.meaning self.old.device) (book self.old.ledger) sequence.now result (book self.new.ledger) }
         ensures device { self.new.device ≡ self.old.device }
     {
         admit_sequence(&self.device, &mut self.ledger, sequence)
@@ -55,7 +55,7 @@ impl<D: Device> Campaign<D> {
 
     // Where a fault stands.
     pub fn mark(&self, fault: u16) -> Result<Mark, Refusal>
-        ensures { result ≡ marked (meaning self.now.device) (book self.now.ledger) fault }
+        ensures { result ≡ marked (D.meaning self.now.device) (book self.now.ledger) fault }
     {
         if fault == 0 || fault >= self.device.members() {
             return Err(Refusal::NoSuchMember);

@@ -10,7 +10,7 @@ use machine::Device;
 
 // The mark of a fault after a sequence was graded: an open fault that it distinguishes is found by it.
 fn graded_mark<D: Device>(device: &D, fault: u16, mark: Mark, sequence: &[u8], number: u16) -> Mark
-    ensures { result ≡ graded (meaning device.now) sequence.now number fault mark }
+    ensures { result ≡ graded (D.meaning device.now) sequence.now number fault mark }
 {
     match mark {
         Mark::Open => {
@@ -36,7 +36,7 @@ fn grade_fault<D: Device>(
 )
     requires within { fault < 1025 }
     requires part { (start ≤ end) × (end ≤ 16384) }
-    ensures { Remarked ledger.old fault (graded (meaning device.now) (part start (end - start) ledger.old.letters) number fault (slice_index_or ledger.old.marks fault Mark.Open)) ledger.new }
+    ensures { Remarked ledger.old fault (graded (D.meaning device.now) (part start (end - start) ledger.old.letters) number fault (slice_index_or ledger.old.marks fault Mark.Open)) ledger.new }
 {
     let mark = graded_mark(
         device,
@@ -57,7 +57,7 @@ pub(crate) fn grade<D: Device>(
     number: u16,
 )
     requires { (start ≤ end) × (end ≤ 16384) }
-    ensures { Graded (meaning device.now) ledger.old (part start (end - start) ledger.old.letters) number ledger.new }
+    ensures { Graded (D.meaning device.now) ledger.old (part start (end - start) ledger.old.letters) number ledger.new }
 {
     for fault in 1..device.members() {
         grade_fault(device, ledger, fault, start, end, number);

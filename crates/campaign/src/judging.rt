@@ -17,7 +17,7 @@ fn keep<D: Device>(device: &D, ledger: &mut Ledger, length: usize, origin: u16) 
     requires number { ledger.old.count < 256 }
     requires room { ledger.old.used + length ≤ 16384 }
     ensures number { result ≡ ledger.old.count + 1 }
-    ensures keeps { Keeps (meaning device.now) (book ledger.old) (part ledger.old.used length ledger.old.letters) origin (book ledger.new) }
+    ensures keeps { Keeps (D.meaning device.now) (book ledger.old) (part ledger.old.used length ledger.old.letters) origin (book ledger.new) }
 {
     let start = ledger.used;
     let number = ledger.append(length, origin);
@@ -33,7 +33,7 @@ fn search_into<D: Device>(
     visits: &mut [Visit<Pair>],
     marks: &mut [u32],
 ) -> Found
-    ensures { SearchedInto (meaning device.now) ledger.old fault (length visits.old) (length marks.old) result ledger.new }
+    ensures { SearchedInto (D.meaning device.now) ledger.old fault (length visits.old) (length marks.old) result ledger.new }
 {
     let start = if ledger.count < SEQUENCES {
         ledger.used
@@ -58,7 +58,7 @@ fn keep_least<D: Device>(
     visits: &mut [Visit<Pair>],
     marks: &mut [u32],
 ) -> Result<Option<u16>, Refusal>
-    ensures { LeastKept (meaning device.now) (book ledger.old) fault (length visits.old) (length marks.old) result (book ledger.new) }
+    ensures { LeastKept (D.meaning device.now) (book ledger.old) fault (length visits.old) (length marks.old) result (book ledger.new) }
 {
     match search_into(device, ledger, fault, visits, marks) {
         Found::Goal { length } => Ok(Some(keep(device, ledger, length, fault))),
@@ -82,7 +82,7 @@ pub(crate) fn judge_fault<D: Device>(
     visits: &mut [Visit<Pair>],
     marks: &mut [u32],
 ) -> Result<Judgement, Refusal>
-    ensures { Judged (meaning device.now) (book ledger.old) fault (length visits.old) (length marks.old) result (book ledger.new) }
+    ensures { Judged (D.meaning device.now) (book ledger.old) fault (length visits.old) (length marks.old) result (book ledger.new) }
 {
     if fault == 0 || fault >= device.members() {
         return Err(Refusal::NoSuchMember);
@@ -104,7 +104,7 @@ fn keep_client<D: Device>(device: &D, ledger: &mut Ledger, sequence: &[u8]) -> u
     requires number { HasNumber (book ledger.old).kept }
     requires room { HasLetters (book ledger.old).kept sequence.now }
     ensures number { result ≡ length (book ledger.old).kept + 1 }
-    ensures keeps { Keeps (meaning device.now) (book ledger.old) sequence.now 0 (book ledger.new) }
+    ensures keeps { Keeps (D.meaning device.now) (book ledger.old) sequence.now 0 (book ledger.new) }
 {
     ledger.write(sequence);
     keep(device, ledger, sequence.len(), 0)
@@ -116,7 +116,7 @@ pub(crate) fn admit_sequence<D: Device>(
     ledger: &mut Ledger,
     sequence: &[u8],
 ) -> Result<u16, Refusal>
-    ensures { Admitted (meaning device.now) (book ledger.old) sequence.now result (book ledger.new) }
+    ensures { Admitted (D.meaning device.now) (book ledger.old) sequence.now result (book ledger.new) }
 {
     if !is_legal(device, sequence) {
         return Err(Refusal::BadSequence);

@@ -44,7 +44,7 @@ fn check_letter<D: Device>(
     letter: u8,
 ) -> Option<Finding>
     requires { length table.now ≡ 65536 }
-    ensures { result ≡ flaw_at (meaning device.now) first second (in_table (meaning device.now).states table.now) place pair letter }
+    ensures { result ≡ flaw_at (D.meaning device.now) first second (in_table (D.meaning device.now).states table.now) place pair letter }
 {
     let (p, x) = device.step(first, pair.first, letter);
     let (q, y) = device.step(second, pair.second, letter);
@@ -75,7 +75,7 @@ fn check_letters<D: Device>(
     letters: u8,
 ) -> Option<Finding>
     requires { length table.now ≡ 65536 }
-    ensures { result ≡ flaw_at_letters (meaning device.now) first second (in_table (meaning device.now).states table.now) place pair 0 letters }
+    ensures { result ≡ flaw_at_letters (D.meaning device.now) first second (in_table (D.meaning device.now).states table.now) place pair 0 letters }
 {
     for letter in 0..letters {
         let flaw = check_letter(device, first, second, table, place, pair, letter);
@@ -96,7 +96,7 @@ fn check_pair<D: Device>(
     pair: Pair,
 ) -> Option<Finding>
     requires { length table.now ≡ 65536 }
-    ensures { result ≡ flaw_at_letters (meaning device.now) first second (in_table (meaning device.now).states table.now) place pair 0 (meaning device.now).letters }
+    ensures { result ≡ flaw_at_letters (D.meaning device.now) first second (in_table (D.meaning device.now).states table.now) place pair 0 (D.meaning device.now).letters }
 {
     check_letters(device, first, second, table, place, pair, device.letters())
 }
@@ -110,8 +110,8 @@ fn check_pairs<D: Device>(
     pairs: &[Pair],
 ) -> Option<Finding>
     requires size { length table.now ≡ 65536 }
-    requires tabled { TableOf (meaning device.now).states pairs.now table.now }
-    ensures { result ≡ flaw_at_places (meaning device.now) first second (listed pairs.now) 0 pairs.now }
+    requires tabled { TableOf (D.meaning device.now).states pairs.now table.now }
+    ensures { result ≡ flaw_at_places (D.meaning device.now) first second (listed pairs.now) 0 pairs.now }
 {
     for (place, pair) in pairs.iter().enumerate() {
         let flaw = check_pair(device, first, second, table, place, *pair);
@@ -131,8 +131,8 @@ fn lists_reset<D: Device>(
     pairs: &[Pair],
 ) -> bool
     requires size { length table.now ≡ 65536 }
-    requires tabled { TableOf (meaning device.now).states pairs.now table.now }
-    ensures { result ≡ listed pairs.now (reset_pair (meaning device.now) first second) }
+    requires tabled { TableOf (D.meaning device.now).states pairs.now table.now }
+    ensures { result ≡ listed pairs.now (reset_pair (D.meaning device.now) first second) }
 {
     table[pair_number(device.states(), reset_pair(device, first, second))]
 }
@@ -140,8 +140,8 @@ fn lists_reset<D: Device>(
 // What is found in a list that stands in the table.
 fn find<D: Device>(device: &D, first: u16, second: u16, table: &[bool], pairs: &[Pair]) -> Finding
     requires size { length table.now ≡ 65536 }
-    requires tabled { TableOf (meaning device.now).states pairs.now table.now }
-    ensures { result ≡ finding (meaning device.now) first second pairs.now }
+    requires tabled { TableOf (D.meaning device.now).states pairs.now table.now }
+    ensures { result ≡ finding (D.meaning device.now) first second pairs.now }
 {
     if !lists_reset(device, first, second, table, pairs) {
         return Finding::NoResetPair;
@@ -159,7 +159,7 @@ fn check_list<D: Device>(
     second: u16,
     pairs: &[Pair],
 ) -> Result<Finding, Refusal>
-    ensures { result ≡ checked (meaning device.now) first second pairs.now }
+    ensures { result ≡ checked (D.meaning device.now) first second pairs.now }
 {
     let members = device.members();
     if first >= members || second >= members {
@@ -179,8 +179,8 @@ pub fn check<D: Device>(
     second: u16,
     pairs: &[Pair],
 ) -> Result<Finding, Refusal>
-    ensures answer { result ≡ checked (meaning device.now) first second pairs.now }
-    ensures proof { result ≡ Ok Finding.Closed → Equivalent (meaning device.now) first second }
+    ensures answer { result ≡ checked (D.meaning device.now) first second pairs.now }
+    ensures proof { result ≡ Ok Finding.Closed → Equivalent (D.meaning device.now) first second }
 {
     check_list(device, first, second, pairs)
 }

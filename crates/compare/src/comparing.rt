@@ -15,7 +15,7 @@ pub fn search_pairs<D: Device>(
     marks: &mut [u32],
     letters: &mut [u8],
 ) -> Found
-    ensures { PairsSearched (meaning device.now) first second (length visits.old) (length marks.old) letters.old result visits.new letters.new }
+    ensures { PairsSearched (D.meaning device.now) first second (length visits.old) (length marks.old) letters.old result visits.new letters.new }
 {
     let walk = PairWalk {
         device,
@@ -57,7 +57,7 @@ pub fn compare<D: Device>(
     letters: &mut [u8],
     pairs: &mut [Pair],
 ) -> Result<Verdict, Refusal>
-    ensures { Compared (meaning device.now) first second (length visits.old) (length marks.old) letters.old pairs.old result letters.new pairs.new }
+    ensures { Compared (D.meaning device.now) first second (length visits.old) (length marks.old) letters.old pairs.old result letters.new pairs.new }
 {
     let members = device.members();
     if first >= members || second >= members {

@@ -15,7 +15,7 @@ pub(crate) fn pair_number(states: u16, pair: Pair) -> usize
 
 // The pair of resets of two members.
 pub(crate) fn reset_pair<D: Device>(device: &D, first: u16, second: u16) -> Pair
-    ensures { result ≡ reset_pair (meaning device.now) first second }
+    ensures { result ≡ reset_pair (D.meaning device.now) first second }
 {
     Pair {
         first: device.reset(first),

@@ -9,7 +9,7 @@ use search::{Found, Visit, shortest};
 
 // Whether a member is in the state from reset, with no letter at all.
 fn is_reset_state<D: Device>(device: &D, member: u16, state: u16) -> bool
-    ensures { result ≡ (reset_of (meaning device.now) member == state) }
+    ensures { result ≡ (reset_of (D.meaning device.now) member == state) }
 {
     device.reset(member) == state
 }
@@ -23,8 +23,8 @@ fn search_states<D: Device>(
     marks: &mut [u32],
     letters: &mut [u8],
 ) -> Found
-    requires { reset_of (meaning device.now) member ≢ wanted }
-    ensures { StatesSearched (meaning device.now) member wanted (length visits.old) (length marks.old) letters.old result letters.new }
+    requires { reset_of (D.meaning device.now) member ≢ wanted }
+    ensures { StatesSearched (D.meaning device.now) member wanted (length visits.old) (length marks.old) letters.old result letters.new }
 {
     let walk = StateWalk {
         device,
@@ -44,7 +44,7 @@ pub fn reach<D: Device>(
     marks: &mut [u32],
     letters: &mut [u8],
 ) -> Result<Reached, Refusal>
-    ensures { Reaches (meaning device.now) member wanted (length visits.old) (length marks.old) letters.old result letters.new }
+    ensures { Reaches (D.meaning device.now) member wanted (length visits.old) (length marks.old) letters.old result letters.new }
 {
     if member >= device.members() {
         return Err(Refusal::NoSuchMember);

@@ -23,7 +23,7 @@ fn letters_below(count: u8, sequence: &[u8]) -> bool
 
 // Whether the device takes the sequence: it has letters, not too many, and all are the device's.
 pub fn is_legal<D: Device>(device: &D, sequence: &[u8]) -> bool
-    ensures { result ≡ legal (meaning device.now).letters sequence.now }
+    ensures { result ≡ legal (D.meaning device.now).letters sequence.now }
 {
     sequence.len() > 0
         && sequence.len() <= MOST_LETTERS
@@ -37,7 +37,7 @@ pub fn first_difference<D: Device>(
     second: u16,
     sequence: &[u8],
 ) -> Option<usize>
-    ensures { result ≡ first_difference (meaning device.now) first second sequence.now }
+    ensures { result ≡ first_difference (D.meaning device.now) first second sequence.now }
 {
     let mut p = device.reset(first);
     let mut q = device.reset(second);
@@ -60,7 +60,7 @@ pub fn replay<D: Device>(
     second: u16,
     sequence: &[u8],
 ) -> Result<Option<usize>, Refusal>
-    ensures { result ≡ replayed (meaning device.now) first second sequence.now }
+    ensures { result ≡ replayed (D.meaning device.now) first second sequence.now }
 {
     let members = device.members();
     if first >= members || second >= members {

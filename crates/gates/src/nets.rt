@@ -32,8 +32,8 @@ fn gate_at(nets: &Nets, gate: Gate) -> bool
 
 // Evaluates the gates from one place up to another; the first of all gates has the net with the number first.
 pub(crate) fn evaluate(nets: &mut Nets, first: usize, gates: &[Gate], from: usize, to: usize)
-    requires gates_bound { (first + length gates.now ≤ 512) × (gates_ordered first gates.now ≡ true) }
-    requires from_le_to { (from ≤ to) × (to ≤ length gates.now) }
+    requires ordered { (first + length gates.now ≤ 512) × (gates_ordered first gates.now ≡ true) }
+    requires range { (from ≤ to) × (to ≤ length gates.now) }
     ensures { nets.new ≡ passed_part nets.old first gates.now from to }
 {
     for i in from..to {
@@ -43,8 +43,8 @@ pub(crate) fn evaluate(nets: &mut Nets, first: usize, gates: &[Gate], from: usiz
 
 // Evaluates all gates while a net is held at a value: those up to that net, and then those after it.
 pub(crate) fn evaluate_held(nets: &mut Nets, first: usize, gates: &[Gate], net: usize, value: bool)
-    requires gates_bound { (first + length gates.now ≤ 512) × (gates_ordered first gates.now ≡ true) }
-    requires net_bound { net < first + length gates.now }
+    requires ordered { (first + length gates.now ≤ 512) × (gates_ordered first gates.now ≡ true) }
+    requires inside { net < first + length gates.now }
     ensures { nets.new ≡ passed_held nets.old first gates.now net value }
 {
     let done = (net + 1).saturating_sub(first);

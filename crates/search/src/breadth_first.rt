@@ -19,11 +19,11 @@ fn entered<W: Walk>(
     marks: &[u32],
     position: W::Position,
 ) -> bool
-    requires is { Inside walk.now position }
-    requires slots { (graph walk.now).count ≤ length marks.now }
-    requires all { (k : ℕ) → k < list.now.tail → Inside walk.now (visit (graph walk.now) list.now.visits.now k).position }
-    requires marked { (k : ℕ) → k < list.now.tail → slice_index marks.now ((graph walk.now).number (visit (graph walk.now) list.now.visits.now k).position) ≡ k }
-    ensures { Among (graph walk.now) list.now.visits.now list.now.tail position result }
+    requires is { W.Inside walk.now position }
+    requires slots { (W.graph walk.now).count ≤ length marks.now }
+    requires all { (k : ℕ) → k < list.now.tail → W.Inside walk.now (visit (W.graph walk.now) list.now.visits.now k).position }
+    requires marked { (k : ℕ) → k < list.now.tail → slice_index marks.now ((W.graph walk.now).number (visit (W.graph walk.now) list.now.visits.now k).position) ≡ k }
+    ensures { Among (W.graph walk.now) list.now.visits.now list.now.tail position result }
 {
     let number = walk.number(position);
     let index = marks[number] as usize;
@@ -42,12 +42,12 @@ fn enter<W: Walk>(
     marks: &mut [u32],
     visit: Visit<W::Position>,
 )
-    requires is { Inside walk.now visit.position }
-    requires slots { (graph walk.now).count ≤ length marks.old }
+    requires is { W.Inside walk.now visit.position }
+    requires slots { (W.graph walk.now).count ≤ length marks.old }
     requires room { list.old.tail < length list.old.visits.now }
     requires few { list.old.tail < 2 ^ 32 }
     ensures items { list.new.visits.now ≡ slice_set list.old.visits.now list.old.tail visit }
-    ensures marks { marks.new ≡ slice_set marks.old ((graph walk.now).number visit.position) list.old.tail }
+    ensures marks { marks.new ≡ slice_set marks.old ((W.graph walk.now).number visit.position) list.old.tail }
     ensures tail { list.new.tail ≡ list.old.tail + 1 }
     ensures head { list.new.head ≡ list.old.head }
     ensures lent { list.new.visits.ghost_name ≡ list.old.visits.ghost_name }
@@ -66,12 +66,12 @@ fn try_letter<W: Walk>(
     at: usize,
     letter: u8,
 ) -> bool
-    requires state { Searched (graph walk.now) (Inside walk.now) list.old.visits.now marks.old list.old.tail at letter }
+    requires state { Searched (W.graph walk.now) (W.Inside walk.now) list.old.visits.now marks.old list.old.tail at letter }
     requires inside { at < list.old.tail }
-    requires lettered { letter < (graph walk.now).letters }
-    requires room { (graph walk.now).count ≤ length list.old.visits.now }
-    requires slots { (graph walk.now).count ≤ length marks.old }
-    ensures tried { Tried (graph walk.now) (Inside walk.now) list.new.visits.now marks.new list.new.tail at letter result }
+    requires lettered { letter < (W.graph walk.now).letters }
+    requires room { (W.graph walk.now).count ≤ length list.old.visits.now }
+    requires slots { (W.graph walk.now).count ≤ length marks.old }
+    ensures tried { Tried (W.graph walk.now) (W.Inside walk.now) list.new.visits.now marks.new list.new.tail at letter result }
     ensures grows { list.old.tail ≤ list.new.tail }
     ensures size { length list.new.visits.now ≡ length list.old.visits.now }
     ensures head { list.new.head ≡ list.old.head }
@@ -105,11 +105,11 @@ fn expand<W: Walk>(
     marks: &mut [u32],
     at: usize,
 ) -> Option<u8>
-    requires state { Searched (graph walk.now) (Inside walk.now) list.old.visits.now marks.old list.old.tail at 0 }
+    requires state { Searched (W.graph walk.now) (W.Inside walk.now) list.old.visits.now marks.old list.old.tail at 0 }
     requires inside { at < list.old.tail }
-    requires room { (graph walk.now).count ≤ length list.old.visits.now }
-    requires slots { (graph walk.now).count ≤ length marks.old }
-    ensures expanded { Expanded (graph walk.now) (Inside walk.now) list.new.visits.now marks.new list.new.tail at result }
+    requires room { (W.graph walk.now).count ≤ length list.old.visits.now }
+    requires slots { (W.graph walk.now).count ≤ length marks.old }
+    ensures expanded { Expanded (W.graph walk.now) (W.Inside walk.now) list.new.visits.now marks.new list.new.tail at result }
     ensures grows { list.old.tail ≤ list.new.tail }
     ensures size { length list.new.visits.now ≡ length list.old.visits.now }
     ensures head { list.new.head ≡ list.old.head }
@@ -129,9 +129,9 @@ pub(crate) fn explore<W: Walk>(
     visits: &mut [Visit<W::Position>],
     marks: &mut [u32],
 ) -> Outcome
-    requires room { (graph walk.now).count ≤ length visits.old }
-    requires slots { (graph walk.now).count ≤ length marks.old }
-    ensures { Explored (graph walk.now) visits.new result }
+    requires room { (W.graph walk.now).count ≤ length visits.old }
+    requires slots { (W.graph walk.now).count ≤ length marks.old }
+    ensures { Explored (W.graph walk.now) visits.new result }
 {
     let position = walk.start();
     let mut list = Worklist {

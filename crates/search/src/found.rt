@@ -26,7 +26,7 @@ pub fn shortest<W: Walk>(
     marks: &mut [u32],
     answer: &mut [u8],
 ) -> Found
-    ensures { Finds (graph walk.now) (length visits.old) (length marks.old) answer.old result visits.new answer.new }
+    ensures { Finds (W.graph walk.now) (length visits.old) (length marks.old) answer.old result visits.new answer.new }
 {
     let count = walk.count();
     if visits.len() < count || marks.len() < count {

@@ -31,8 +31,8 @@ graded_more m start n number fault first mid after done left same call f a b = g
 pub loop-fault-preserved : goal.loop-fault-preserved
 loop-fault-preserved g c =
     let inv = c.loop-fault.invariant in
-    let call = c.grade-fault.ensures in (
-      graded_more (g.D.Device.meaning c.args.device.now) c.args.start (c.args.end - c.args.start) c.args.number c.loop-fault.fault c.args.ledger.now c.loop-fault.ledger c.grade-fault.new.ledger inv.0 inv.1 inv.2 call,
+    let call = c.grade_fault.ensures in (
+      graded_more (g.D.Device.meaning c.args.device.now) c.args.start (c.args.end - c.args.start) c.args.number c.loop-fault.fault c.args.ledger.now c.loop-fault.ledger c.grade_fault.new.ledger inv.0 inv.1 inv.2 call,
       λ f h. call.elsewhere f (λ e. omega arith) ∙ inv.1 f (omega arith),
       record { kept = call.same.kept ∙ inv.2.kept; count = call.same.count ∙ inv.2.count; letters = call.same.letters ∙ inv.2.letters; used = call.same.used ∙ inv.2.used },
     )

@@ -10,7 +10,7 @@ pub returns-in-Goal : goal.returns-in-Goal
 returns-in-Goal g c =
     let m = g.D.Device.meaning c.args.device.now in
     let l = c.args.ledger.now in
-    let mid = c.search-into.new.ledger in
+    let mid = c.search_into.new.ledger in
     let p = c.in-Goal.ensures in
     let w = p.5 in
     let n = c.in-Goal.length in
@@ -23,29 +23,29 @@ returns-in-Goal g c =
     (p.0, omega (arith, c.keep.ensures.number), (s, p.3, omega arith, p.4, subst (λ (b : Book). Keeps m b s c.args.fault (book c.keep.new.ledger)) (behind_book l mid w) keeps))
 
 pub returns-in-Exhausted : goal.returns-in-Exhausted
-returns-in-Exhausted g c = let p = c.in-Exhausted.ensures in (p.0, p.1, behind_same c.args.ledger.now c.search-into.new.ledger p.2, p.2.marks)
+returns-in-Exhausted g c = let p = c.in-Exhausted.ensures in (p.0, p.1, behind_same c.args.ledger.now c.search_into.new.ledger p.2, p.2.marks)
 
 pub returns-in-WorkTooShort : goal.returns-in-WorkTooShort
-returns-in-WorkTooShort g c = let p = c.in-WorkTooShort.ensures in (inl (refl, p.0), behind_book c.args.ledger.now c.search-into.new.ledger p.1)
+returns-in-WorkTooShort g c = let p = c.in-WorkTooShort.ensures in (inl (refl, p.0), behind_book c.args.ledger.now c.search_into.new.ledger p.1)
 
-pub returns-then-is-full : goal.returns-then-is-full
-returns-then-is-full g c =
+pub returns-then-is_full : goal.returns-then-is_full
+returns-then-is_full g c =
     let l = c.args.ledger.now in
-    let mid = c.search-into.new.ledger in
+    let mid = c.search_into.new.ledger in
     let p = c.in-AnswerTooShort.ensures in
     let s = p.1 in
     let kept = ap length (behind_same l mid p.2) in
-    let full = ltb-false _ _ (not-true _ (sym c.if-is-full.ensures)) in
+    let full = ltb-false _ _ (not-true _ (sym c.if-is_full.ensures)) in
     (inr (p.0, (s.0, s.1, inl (refl, omega arith))), behind_book l mid p.2)
 
-pub returns-else-is-full : goal.returns-else-is-full
-returns-else-is-full g c =
+pub returns-else-is_full : goal.returns-else-is_full
+returns-else-is_full g c =
     let l = c.args.ledger.now in
-    let mid = c.search-into.new.ledger in
+    let mid = c.search_into.new.ledger in
     let p = c.in-AnswerTooShort.ensures in
     let s = p.1 in
     let kept = ap length (behind_same l mid p.2) in
-    let few = ltb-true _ _ (not-false _ (sym c.if-is-full.ensures)) in
+    let few = ltb-true _ _ (not-false _ (sym c.if-is_full.ensures)) in
     let low : length (book l).kept < 256 = omega arith in
     let all = length_entries l in
     (inr (p.0, (s.0, s.1, inr (low, refl, s.2 (omega arith)))), behind_book l mid p.2)

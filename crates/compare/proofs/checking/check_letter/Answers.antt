@@ -6,8 +6,8 @@ use Rattle.compare.specs.Soundness.{pair_number_below, few_pairs}
 use Rattle.compare.specs.Walks.{pair_number}
 use Rattle.compare.proofs.checking.check_letter.Goals as goal
 
-pub bounds-table-pair-number : goal.bounds-table-pair-number
-bounds-table-pair-number g c =
+pub bounds-table-pair_number : goal.bounds-table-pair_number
+bounds-table-pair_number g c =
     let m = g.D.Device.meaning c.args.device.now in
     let sound = g.D.Device.sound c.args.device.now in
     let p : c.step-p.result.0 < m.states = subst (λ (x : ℕ × ℕ). x.0 < m.states) (sym c.step-p.ensures) (next_below m sound c.args.first c.args.pair.first c.args.letter) in

@@ -10,14 +10,14 @@ loop-letter-init g c =
     let all : c.args.letters - 0 ≡ c.args.letters = omega arith in
     ap (flaw_at_letters m c.args.first c.args.second (in_table m.states c.args.table.now) c.args.place c.args.pair 0) all
 
-pub returns-then-is-some : goal.returns-then-is-some
-returns-then-is-some g c =
+pub returns-then-is_some : goal.returns-then-is_some
+returns-then-is_some g c =
     let m = g.D.Device.meaning c.args.device.now in
     let has = in_table m.states c.args.table.now in
-    let flaw = c.check-letter-flaw.ensures in
+    let flaw = c.check_letter-flaw.ensures in
     let more = letters_more m c.args.first c.args.second has c.args.place c.args.pair c.loop-letter.letter c.args.letters (omega arith) in
     flaw
-    ∙ sym (or_else_some _ _ (ap (is_some {T = Finding}) (sym flaw) ∙ sym c.if-is-some.ensures))
+    ∙ sym (or_else_some _ _ (ap (is_some {T = Finding}) (sym flaw) ∙ sym c.if-is_some.ensures))
     ∙ sym more
     ∙ c.loop-letter.invariant
 
@@ -25,9 +25,9 @@ pub loop-letter-preserved : goal.loop-letter-preserved
 loop-letter-preserved g c =
     let m = g.D.Device.meaning c.args.device.now in
     let has = in_table m.states c.args.table.now in
-    let flaw = c.check-letter-flaw.ensures in
+    let flaw = c.check_letter-flaw.ensures in
     let more = letters_more m c.args.first c.args.second has c.args.place c.args.pair c.loop-letter.letter c.args.letters (omega arith) in
-    sym (or_else_none _ _ (ap (is_some {T = Finding}) (sym flaw) ∙ sym c.if-is-some.ensures))
+    sym (or_else_none _ _ (ap (is_some {T = Finding}) (sym flaw) ∙ sym c.if-is_some.ensures))
     ∙ sym more
     ∙ c.loop-letter.invariant
 

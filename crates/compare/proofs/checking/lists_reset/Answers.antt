@@ -6,8 +6,8 @@ use Rattle.compare.specs.Walks.{pair_number}
 use Rattle.compare.proofs.Tables.{reset_inside}
 use Rattle.compare.proofs.checking.lists_reset.Goals as goal
 
-pub bounds-table-pair-number : goal.bounds-table-pair-number
-bounds-table-pair-number g c =
+pub bounds-table-pair_number : goal.bounds-table-pair_number
+bounds-table-pair_number g c =
     let m = g.D.Device.meaning c.args.device.now in
     let sound = g.D.Device.sound c.args.device.now in
     let numbered : c.pair_number.result ≡ pair_number m.states (reset_pair m c.args.first c.args.second) = c.pair_number.ensures ∙ ap (λ (n : ℕ). pair_number n c.reset_pair.result) c.states.ensures ∙ ap (pair_number m.states) c.reset_pair.ensures in

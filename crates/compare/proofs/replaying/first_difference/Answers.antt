@@ -3,14 +3,14 @@ use Rattle.std.proofs.lemmas.List.{at_drop_all}
 use Rattle.compare.proofs.Replays.{left, left_same, left_differs}
 use Rattle.compare.proofs.replaying.first_difference.Goals as goal
 
-pub returns-then-outputs-differ : goal.returns-then-outputs-differ
-returns-then-outputs-differ g c =
-    sym (left_differs (g.D.Device.meaning c.args.device.now) _ _ c.loop-place.place c.loop-place.p c.loop-place.q c.step-p-next.result c.step-q-next.result c.args.sequence.now c.loop-place-test.true c.step-p-next.ensures c.step-q-next.ensures (sym c.if-outputs-differ.ensures))
+pub returns-then-outputs_differ : goal.returns-then-outputs_differ
+returns-then-outputs_differ g c =
+    sym (left_differs (g.D.Device.meaning c.args.device.now) _ _ c.loop-place.place c.loop-place.p c.loop-place.q c.step-p_next.result c.step-q_next.result c.args.sequence.now c.loop-place-test.true c.step-p_next.ensures c.step-q_next.ensures (sym c.if-outputs_differ.ensures))
     ∙ c.loop-place.invariant
 
 pub loop-place-preserved : goal.loop-place-preserved
 loop-place-preserved g c =
-    sym (left_same (g.D.Device.meaning c.args.device.now) _ _ c.loop-place.place c.loop-place.p c.loop-place.q c.step-p-next.result c.step-q-next.result c.args.sequence.now c.loop-place-test.true c.step-p-next.ensures c.step-q-next.ensures (sym c.if-outputs-differ.ensures))
+    sym (left_same (g.D.Device.meaning c.args.device.now) _ _ c.loop-place.place c.loop-place.p c.loop-place.q c.step-p_next.result c.step-q_next.result c.args.sequence.now c.loop-place-test.true c.step-p_next.ensures c.step-q_next.ensures (sym c.if-outputs_differ.ensures))
     ∙ c.loop-place.invariant
 
 pub returns : goal.returns

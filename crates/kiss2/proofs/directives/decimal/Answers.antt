@@ -5,8 +5,8 @@ use Rattle.kiss2.specs.Headings.{decimal}
 use Rattle.kiss2.proofs.Decimals.{count_digit}
 use Rattle.kiss2.proofs.directives.decimal.Goals as goal
 
-pub overflow-sub-number : goal.overflow-sub-number
-overflow-sub-number c = (count_digit c.args.bytes.now c.loop-byte.byte-index c.requires c.loop-byte-test.true).0
+pub overflow_sub-number : goal.overflow_sub-number
+overflow_sub-number c = (count_digit c.args.bytes.now c.loop-byte.byte-index c.requires c.loop-byte-test.true).0
 
 pub loop-byte-preserved : goal.loop-byte-preserved
 loop-byte-preserved c =

@@ -16,8 +16,8 @@ all_from_zero n = omega arith
 found : (text : List ℕ) (entries : List Part) (n r : ℕ) (name name' : List ℕ) → r ≡ number_of text (take (n - 0) entries) name → name ≡ name' → r ≡ number_of text (take n entries) name'
 found text entries n r name name' e f = e ∙ ap (λ (k : ℕ). number_of text (take k entries) name) (all_from_zero n) ∙ ap (number_of text (take n entries)) f
 
-pub number-of-number-requires : goal.number-of-number-requires
-number-of-number-requires c =
+pub number_of-number-requires : goal.number_of-number-requires
+number_of-number-requires c =
     subst (λ (k : ℕ). (q : ℕ) → q < length (take k c.args.names.now) → Inside c.args.text.now (entry_at (take k c.args.names.now) q)) (sym (all_from_zero c.args.states.now))
     (λ q h. c.requires.inside q (omega (arith, h, length-take-le c.args.states.now c.args.names.now (omega (arith, c.requires.few, c.requires.room)))))
 
@@ -27,17 +27,17 @@ returns-then-known-eq-STATES c =
     let n = c.args.states.now in
     let ps = take n c.args.names.now in
     let p = part_of c.args.word in
-    let number = found text _ n _ _ (bytes_of text p) c.number-of-number.ensures c.requires.stands.bytes in
+    let number = found text _ n _ _ (bytes_of text p) c.number_of-number.ensures c.requires.stands.bytes in
     let long : length ps ≡ n = length-take-le n c.args.names.now (omega (arith, c.requires.few, c.requires.room)) in
     let new = named_new text ps p (sym number ∙ c.if-number-known.true ∙ sym long) in
     (refl, omega (arith, ap length new, length_push ps p, long, c.if-known-eq-STATES.true))
 
-pub overflow-cast-result : goal.overflow-cast-result
-overflow-cast-result c =
+pub overflow_cast-result : goal.overflow_cast-result
+overflow_cast-result c =
     let n = c.args.states.now in
     let small = number_upto c.args.text.now (take (n - 0) c.args.names.now) c.args.word.bytes.now in
     let long = length-take-le (n - 0) c.args.names.now (omega (arith, c.requires.few, c.requires.room)) in
-    omega (arith, small, long, c.number-of-number.ensures, c.requires.few)
+    omega (arith, small, long, c.number_of-number.ensures, c.requires.few)
 
 pub returns : goal.returns
 returns c =
@@ -45,7 +45,7 @@ returns c =
     let n : ℕ = c.args.states.now in
     let entries : List Part = c.args.names.now in
     let p = part_of c.args.word in
-    let number = found text entries n _ _ (bytes_of text p) c.number-of-number.ensures c.requires.stands.bytes in
+    let number = found text entries n _ _ (bytes_of text p) c.number_of-number.ensures c.requires.stands.bytes in
     elim c.if-number-known.branch [
       | then-number-known+else-known-eq-STATES w ↦
           let few : n < 256 = omega (arith, c.requires.few, w.if-known-eq-STATES.false) in

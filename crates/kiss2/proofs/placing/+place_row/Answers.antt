@@ -9,40 +9,40 @@ use Rattle.kiss2.proofs.placing.+place_row.Goals as goal
 pub longer-requires : goal.longer-requires
 longer-requires t c = (longer_small c.args.place (length c.args.digits.now) _ c.requires.given c.requires.few, omega arith)
 
-pub longer-requires-then-place-row : goal.longer-requires-then-place-row
-longer-requires-then-place-row t c = (longer_small c.args.place (length c.args.digits.now) _ c.requires.given c.requires.few, omega arith)
+pub longer-requires-then-place_row : goal.longer-requires-then-place_row
+longer-requires-then-place_row t c = (longer_small c.args.place (length c.args.digits.now) _ c.requires.given c.requires.few, omega arith)
 
-pub longer-requires-else-matches-both : goal.longer-requires-else-matches-both
-longer-requires-else-matches-both t c = (longer_small c.args.place (length c.args.digits.now) _ c.requires.given c.requires.few, c.bit-of.ensures.bound)
+pub longer-requires-else-matches_both : goal.longer-requires-else-matches_both
+longer-requires-else-matches_both t c = (longer_small c.args.place (length c.args.digits.now) _ c.requires.given c.requires.few, c.bit_of.ensures.bound)
 
-pub place-row-requires : goal.place-row-requires
-place-row-requires t c =
+pub place_row-requires : goal.place_row-requires
+place_row-requires t c =
     let some : 0 < length c.args.digits.now = omega (arith, c.if-digits-eq0.false) in
     let less = rest_shorter c.args.digits.now some in
     let small : c.longer.result ≤ c.args.place * 2 + 1 = omega (arith, c.longer.ensures) in
     (omega (arith, less, c.decreases), (room_halves c.args.place c.longer.result _ _ _ small less c.requires.cells, (room_halves c.args.place c.longer.result _ _ _ small less c.requires.given, c.requires.few)))
 
-pub place-row-requires-then-place-row : goal.place-row-requires-then-place-row
-place-row-requires-then-place-row t c =
+pub place_row-requires-then-place_row : goal.place_row-requires-then-place_row
+place_row-requires-then-place_row t c =
     let some : 0 < length c.args.digits.now = omega (arith, c.if-digits-eq0.false) in
     let less = rest_shorter c.args.digits.now some in
-    let small : c.longer-then-place-row.result ≤ c.args.place * 2 + 1 = omega (arith, c.longer-then-place-row.ensures) in
-    let cells = room_halves c.args.place c.longer-then-place-row.result _ _ _ small less c.requires.cells in
-    let given = room_halves c.args.place c.longer-then-place-row.result _ _ _ small less c.requires.given in
-    (omega (arith, less, c.decreases), (omega (arith, cells, c.place-row.auto.cells), (omega (arith, given, c.place-row.auto.given), omega (arith, c.requires.few, c.place-row.auto.given))))
+    let small : c.longer-then-place_row.result ≤ c.args.place * 2 + 1 = omega (arith, c.longer-then-place_row.ensures) in
+    let cells = room_halves c.args.place c.longer-then-place_row.result _ _ _ small less c.requires.cells in
+    let given = room_halves c.args.place c.longer-then-place_row.result _ _ _ small less c.requires.given in
+    (omega (arith, less, c.decreases), (omega (arith, cells, c.place_row.auto.cells), (omega (arith, given, c.place_row.auto.given), omega (arith, c.requires.few, c.place_row.auto.given))))
 
-pub place-row-requires-else-matches-both : goal.place-row-requires-else-matches-both
-place-row-requires-else-matches-both t c =
+pub place_row-requires-else-matches_both : goal.place_row-requires-else-matches_both
+place_row-requires-else-matches_both t c =
     let some : 0 < length c.args.digits.now = omega (arith, c.if-digits-eq0.false) in
     let less = rest_shorter c.args.digits.now some in
-    let small : c.longer-else-matches-both.result ≤ c.args.place * 2 + 1 = omega (arith, c.longer-else-matches-both.ensures, c.bit-of.ensures.bound) in
-    (omega (arith, less, c.decreases), (room_halves c.args.place c.longer-else-matches-both.result _ _ _ small less c.requires.cells, (room_halves c.args.place c.longer-else-matches-both.result _ _ _ small less c.requires.given, c.requires.few)))
+    let small : c.longer-else-matches_both.result ≤ c.args.place * 2 + 1 = omega (arith, c.longer-else-matches_both.ensures, c.bit_of.ensures.bound) in
+    (omega (arith, less, c.decreases), (room_halves c.args.place c.longer-else-matches_both.result _ _ _ small less c.requires.cells, (room_halves c.args.place c.longer-else-matches_both.result _ _ _ small less c.requires.given, c.requires.few)))
 
 pub returns-then-digits-eq0 : goal.returns-then-digits-eq0
 returns-then-digits-eq0 t c =
     let none : c.args.digits.now ≡ [] = nil_from_length c.args.digits.now c.if-digits-eq0.true in
-    subst (λ (ds : List ℕ). Placed (put_all c.args.cell (places ds c.args.place) (table c.args.cells.now c.args.given.now)) c.place-cell.result (table c.place-cell.new.cells c.place-cell.new.given)) (sym none)
-    (placed_one c.args.cell c.args.place _ c.place-cell.result _ c.place-cell.ensures)
+    subst (λ (ds : List ℕ). Placed (put_all c.args.cell (places ds c.args.place) (table c.args.cells.now c.args.given.now)) c.place_cell.result (table c.place_cell.new.cells c.place_cell.new.given)) (sym none)
+    (placed_one c.args.cell c.args.place _ c.place_cell.result _ c.place_cell.ensures)
 
 -- the places of both bits
 dash : (ds : List ℕ) (q p r : ℕ) → 0 < length ds → eqb (get_or ds 0 0) 45 ≡ true → p ≡ q * 2 + 0 → r ≡ q * 2 + 1 → places ds q ≡ places (rest_of ds) p ++ places (rest_of ds) r
@@ -51,27 +51,27 @@ dash ds q p r some e f g =
     ∙ ap (λ (k : ℕ). places (rest_of ds) k ++ places (rest_of ds) (q * 2 + 1)) (let z : q * 2 ≡ p = omega (arith, f) in z)
     ∙ ap (λ (k : ℕ). places (rest_of ds) p ++ places (rest_of ds) k) (sym g)
 
-pub returns-then-place-row : goal.returns-then-place-row
-returns-then-place-row t c =
+pub returns-then-place_row : goal.returns-then-place_row
+returns-then-place_row t c =
     let ds = c.args.digits.now in
     let some : 0 < length ds = omega (arith, c.if-digits-eq0.false) in
-    let both = dash ds c.args.place c.longer.result c.longer-then-place-row.result some (sym c.if-matches-both.ensures) c.longer.ensures c.longer-then-place-row.ensures in
-    subst (λ (ks : List ℕ). Placed (put_all c.args.cell ks (table c.args.cells.now c.args.given.now)) c.place-row-then-place-row.result (table c.place-row-then-place-row.new.cells c.place-row-then-place-row.new.given)) (sym both)
-    (placed_both c.args.cell (places (rest_of ds) c.longer.result) (places (rest_of ds) c.longer-then-place-row.result) (table c.args.cells.now c.args.given.now) (table c.place-row.new.cells c.place-row.new.given) c.place-row-then-place-row.result (table c.place-row-then-place-row.new.cells c.place-row-then-place-row.new.given) c.if-place-row.ensures c.place-row-then-place-row.ensures)
+    let both = dash ds c.args.place c.longer.result c.longer-then-place_row.result some (sym c.if-matches_both.ensures) c.longer.ensures c.longer-then-place_row.ensures in
+    subst (λ (ks : List ℕ). Placed (put_all c.args.cell ks (table c.args.cells.now c.args.given.now)) c.place_row-then-place_row.result (table c.place_row-then-place_row.new.cells c.place_row-then-place_row.new.given)) (sym both)
+    (placed_both c.args.cell (places (rest_of ds) c.longer.result) (places (rest_of ds) c.longer-then-place_row.result) (table c.args.cells.now c.args.given.now) (table c.place_row.new.cells c.place_row.new.given) c.place_row-then-place_row.result (table c.place_row-then-place_row.new.cells c.place_row-then-place_row.new.given) c.if-place_row.ensures c.place_row-then-place_row.ensures)
 
-pub returns-else-place-row : goal.returns-else-place-row
-returns-else-place-row t c =
+pub returns-else-place_row : goal.returns-else-place_row
+returns-else-place_row t c =
     let ds = c.args.digits.now in
     let some : 0 < length ds = omega (arith, c.if-digits-eq0.false) in
-    let both = dash ds c.args.place c.longer.result (c.args.place * 2 + 1) some (sym c.if-matches-both.ensures) c.longer.ensures refl in
-    subst (λ (r : Bool). Placed (put_all c.args.cell (places ds c.args.place) (table c.args.cells.now c.args.given.now)) r (table c.place-row.new.cells c.place-row.new.given)) (sym c.if-place-row.false)
+    let both = dash ds c.args.place c.longer.result (c.args.place * 2 + 1) some (sym c.if-matches_both.ensures) c.longer.ensures refl in
+    subst (λ (r : Bool). Placed (put_all c.args.cell (places ds c.args.place) (table c.args.cells.now c.args.given.now)) r (table c.place_row.new.cells c.place_row.new.given)) (sym c.if-place_row.false)
     (ap (λ (ks : List ℕ). put_all c.args.cell ks (table c.args.cells.now c.args.given.now)) both
-    ∙ placed_stops c.args.cell (places (rest_of ds) c.longer.result) (places (rest_of ds) (c.args.place * 2 + 1)) (table c.args.cells.now c.args.given.now) (table c.place-row.new.cells c.place-row.new.given) c.if-place-row.ensures)
+    ∙ placed_stops c.args.cell (places (rest_of ds) c.longer.result) (places (rest_of ds) (c.args.place * 2 + 1)) (table c.args.cells.now c.args.given.now) (table c.place_row.new.cells c.place_row.new.given) c.if-place_row.ensures)
 
-pub returns-else-matches-both : goal.returns-else-matches-both
-returns-else-matches-both t c =
+pub returns-else-matches_both : goal.returns-else-matches_both
+returns-else-matches_both t c =
     let ds = c.args.digits.now in
     let some : 0 < length ds = omega (arith, c.if-digits-eq0.false) in
-    let one = places_bit ds c.args.place c.bit-of.result some (eqb-false (get_or ds 0 0) 45 (sym c.if-matches-both.ensures)) c.bit-of.ensures.value ∙ ap (places (rest_of ds)) (sym c.longer-else-matches-both.ensures) in
-    subst (λ (ks : List ℕ). Placed (put_all c.args.cell ks (table c.args.cells.now c.args.given.now)) c.place-row-else-matches-both.result (table c.place-row-else-matches-both.new.cells c.place-row-else-matches-both.new.given)) (sym one)
-    c.place-row-else-matches-both.ensures
+    let one = places_bit ds c.args.place c.bit_of.result some (eqb-false (get_or ds 0 0) 45 (sym c.if-matches_both.ensures)) c.bit_of.ensures.value ∙ ap (places (rest_of ds)) (sym c.longer-else-matches_both.ensures) in
+    subst (λ (ks : List ℕ). Placed (put_all c.args.cell ks (table c.args.cells.now c.args.given.now)) c.place_row-else-matches_both.result (table c.place_row-else-matches_both.new.cells c.place_row-else-matches_both.new.given)) (sym one)
+    c.place_row-else-matches_both.ensures

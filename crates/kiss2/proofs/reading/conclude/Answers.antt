@@ -3,8 +3,8 @@ use Rattle.std.proofs.lemmas.List.{length-take-le}
 use Rattle.kiss2.specs.Laws.{Inside, entry_at}
 use Rattle.kiss2.proofs.reading.conclude.Goals as goal
 
-pub reset-state-requires : goal.reset-state-requires
-reset-state-requires c =
+pub reset_state-requires : goal.reset_state-requires
+reset_state-requires c =
     let n = c.args.progress.now.states in
     let whole : n ≡ n - 0 = omega arith in
     record {

@@ -10,38 +10,38 @@ use Rattle.kiss2.proofs.Enlisting.{first_again, first_are}
 use Rattle.kiss2.proofs.Entries.{named_each, named_grows}
 use Rattle.kiss2.proofs.reading.number_states.Goals as goal
 
-pub returns-in-err-one : goal.returns-in-err-one
-returns-in-err-one c =
+pub returns-in_err-one : goal.returns-in_err-one
+returns-in_err-one c =
     let p = err_from_is_err_and c.from-residual.result c.from-residual.ensures.1 in
-    let e = c.in-err-one.ensures in
+    let e = c.in_err-one.ensures in
     let text = c.args.text.now in
     let ps : List Part = take c.args.states.now c.args.names.now in
     let grows = named_grows text (named text ps (part_of c.args.first)) (part_of c.args.second) in
     rw (p.1, p.2) (e.0, omega (arith, e.1, grows))
 
-pub number-state-requires-2 : goal.number-state-requires-2
-number-state-requires-2 c =
-    let e = c.in-ok-one.ensures in
+pub number_state-requires-2 : goal.number_state-requires-2
+number_state-requires-2 c =
+    let e = c.in_ok-one.ensures in
     let text = c.args.text.now in
     let n : ℕ = c.args.states.now in
     let entries : List Part = c.args.names.now in
     let p = part_of c.args.first in
     let ps : List Part = take n entries in
     let long : length ps ≡ n = length-take-le n entries (omega (arith, c.requires.few, c.requires.room)) in
-    let are : take c.number-state.new.states c.number-state.new.names ≡ named text ps p = first_are (named text ps p) entries _ _ e.1 e.2 in
+    let are : take c.number_state.new.states c.number_state.new.names ≡ named text ps p = first_are (named text ps p) entries _ _ e.1 e.2 in
     record {
       few = e.3;
-      room = omega (arith, c.requires.room, c.number-state.auto.names);
+      room = omega (arith, c.requires.room, c.number_state.auto.names);
       inside = λ q h. subst (λ (qs : List Part). Inside text (entry_at qs q)) (sym are) (named_each text ps p (Inside text) (λ i k. c.requires.inside i (omega (arith, k, long))) c.requires.first.inside q (omega (arith, h, e.2)));
       stands = c.requires.second;
       short = c.requires.short;
     }
 
-pub returns-in-err-other : goal.returns-in-err-other
-returns-in-err-other c =
-    let p = err_from_is_err_and c.from-residual-in-err-other.result c.from-residual-in-err-other.ensures.1 in
-    let e = c.in-ok-one.ensures in
-    let f = c.in-err-other.ensures in
+pub returns-in_err-other : goal.returns-in_err-other
+returns-in_err-other c =
+    let p = err_from_is_err_and c.from-residual-in_err-other.result c.from-residual-in_err-other.ensures.1 in
+    let e = c.in_ok-one.ensures in
+    let f = c.in_err-other.ensures in
     let text = c.args.text.now in
     let entries : List Part = c.args.names.now in
     let ps : List Part = take c.args.states.now entries in
@@ -50,12 +50,12 @@ returns-in-err-other c =
 
 pub returns : goal.returns
 returns c =
-    let e = c.in-ok-one.ensures in
+    let e = c.in_ok-one.ensures in
     let text = c.args.text.now in
     let entries : List Part = c.args.names.now in
     let ps : List Part = take c.args.states.now entries in
     let b = part_of c.args.first in
     let d = part_of c.args.second in
     let are = first_are (named text ps b) entries _ _ e.1 e.2 in
-    let f = subst (λ (qs : List Part). Enlisted text qs d c.number-state.new.names (Ok c.in-ok-other.other) c.number-state-2.new.names c.number-state-2.new.states) are c.in-ok-other.ensures in
-    (e.0, f.0, first_again _ _ _ _ _ e.1 f.1 (named_grows text (named text ps b) d) c.number-state.auto.names, f.2, f.3)
+    let f = subst (λ (qs : List Part). Enlisted text qs d c.number_state.new.names (Ok c.in_ok-other.other) c.number_state-2.new.names c.number_state-2.new.states) are c.in_ok-other.ensures in
+    (e.0, f.0, first_again _ _ _ _ _ e.1 f.1 (named_grows text (named text ps b) d) c.number_state.auto.names, f.2, f.3)

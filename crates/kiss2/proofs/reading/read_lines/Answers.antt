@@ -32,8 +32,8 @@ loop-refusal-init c =
       (nothing_seen, subst (From c.args.text.now nothing_seen) (sym e) refl, sound_nothing c.args.text.now, subst (λ (h : Heading). Holds c.args.cells.now c.args.names.now (record { heading = h; states = 0; rows = 0; clash = None }) c.args.names.now (table c.args.cells.now c.args.given.now) nothing_seen) (sym c.new.ensures) (holds_nothing c.args.cells.now c.args.names.now c.args.given.now c.requires.given)),
     )
 
-pub read-line-requires : goal.read-line-requires
-read-line-requires c =
+pub read_line-requires : goal.read_line-requires
+read_line-requires c =
     let inv = c.loop-refusal.invariant in
     let is = ends c.args.text.now c.loop-refusal.start.place c.line_length.result c.line_length.ensures.value in
     record {
@@ -58,7 +58,7 @@ returns-then-end-text c =
     let inv = c.loop-refusal.invariant in
     let is = ends c.args.text.now c.loop-refusal.start.place c.line_length.result c.line_length.ensures.value in
     let s = inv.5.0 in
-    let x = c.in-default.ensures.taken c.args.cells.now c.args.names.now s inv.5.2 inv.5.3 in
+    let x = c.in_default.ensures.taken c.args.cells.now c.args.names.now s inv.5.2 inv.5.3 in
     (x.0, sym inv.5.1 ∙ last_taken c.args.text.now c.loop-refusal.start.place _ inv.0 is c.loop-refusal.start.number s x.0 x.1 c.if-end-text.true, x.2, x.3)
 
 pub loop-refusal-preserved : goal.loop-refusal-preserved
@@ -68,15 +68,15 @@ loop-refusal-preserved c =
     let is = ends text c.loop-refusal.start.place c.line_length.result c.line_length.ensures.value in
     let inside = line_ends text c.loop-refusal.start.place _ inv.0 is in
     let s = inv.5.0 in
-    let x = c.in-default.ensures.taken c.args.cells.now c.args.names.now s inv.5.2 inv.5.3 in
+    let x = c.in_default.ensures.taken c.args.cells.now c.args.names.now s inv.5.2 inv.5.3 in
     let e = c.next-start.ensures in
     let place = ap (λ (x : LineStart). x.place) e in
     let number = ap (λ (x : LineStart). x.number) e in (
       omega (arith, inside, c.if-end-text.false, place),
       omega (arith, inv.1, place, number),
-      omega (arith, inv.2, c.read-line.ensures.more, number),
-      omega (arith, inv.3, c.read-line.auto.names),
-      c.read-line.auto.given ∙ inv.4,
+      omega (arith, inv.2, c.read_line.ensures.more, number),
+      omega (arith, inv.3, c.read_line.auto.names),
+      c.read_line.auto.given ∙ inv.4,
       (x.0, subst (From text x.0) (sym e) (sym (next_taken text c.loop-refusal.start.place _ inv.0 is c.loop-refusal.start.number s x.0 x.1 c.if-end-text.false) ∙ inv.5.1), x.2, x.3),
     )
 

@@ -8,25 +8,25 @@ use Rattle.kiss2.specs.declared.line.Line.{Line as ReadLine}
 use Rattle.kiss2.proofs.Stepping.{directive_said, end_said, heading_step, row_stepped}
 use Rattle.kiss2.proofs.reading.take_line.Goals as goal
 
-pub returns-in-ok-progress : goal.returns-in-ok-progress
-returns-in-ok-progress c = record {
+pub returns-in_ok-progress : goal.returns-in_ok-progress
+returns-in_ok-progress c = record {
   taken = λ old_cells old_names s sound holds.
       let text = c.args.text.now in
       let w = c.in-Directive.value in
       let stands = subst (LineStands text) c.in-Directive.is c.requires.stands in
-      let h = c.in-ok-progress.field-0 in
-      let e = directive_said text old_cells old_names c.args.progress.now c.args.names.now (table c.args.cells.now c.args.given.now) s sound holds c.args.line c.in-Directive.key (part_of w) w.bytes.now h stands.bytes (sym c.take.ensures ∙ c.in-ok-progress.was) in
+      let h = c.in_ok-progress.field-0 in
+      let e = directive_said text old_cells old_names c.args.progress.now c.args.names.now (table c.args.cells.now c.args.given.now) s sound holds c.args.line c.in-Directive.key (part_of w) w.bytes.now h stands.bytes (sym c.take.ensures ∙ c.in_ok-progress.was) in
       let x = heading_step text old_cells old_names c.args.progress.now c.args.names.now (table c.args.cells.now c.args.given.now) s sound holds c.args.line (directive c.in-Directive.key (part_of w)) h stands.inside e in
       (x.0, ap (λ (l : ReadLine). take_line text c.args.line s (line_said l)) c.in-Directive.is ∙ x.1, x.2, x.3);
   more = omega arith;
 }
 
-pub returns-in-ok-progress-2 : goal.returns-in-ok-progress-2
-returns-in-ok-progress-2 c = record {
+pub returns-in_ok-progress-2 : goal.returns-in_ok-progress-2
+returns-in_ok-progress-2 c = record {
   taken = λ old_cells old_names s sound holds.
       let text = c.args.text.now in
-      let h = c.in-ok-progress-2.field-0 in
-      let e = end_said text old_cells old_names c.args.progress.now c.args.names.now (table c.args.cells.now c.args.given.now) s sound holds c.args.line h (sym c.close.ensures ∙ c.in-ok-progress-2.was) in
+      let h = c.in_ok-progress-2.field-0 in
+      let e = end_said text old_cells old_names c.args.progress.now c.args.names.now (table c.args.cells.now c.args.given.now) s sound holds c.args.line h (sym c.close.ensures ∙ c.in_ok-progress-2.was) in
       let x = heading_step text old_cells old_names c.args.progress.now c.args.names.now (table c.args.cells.now c.args.given.now) s sound holds c.args.line end h tt e in
       (x.0, ap (λ (l : ReadLine). take_line text c.args.line s (line_said l)) c.in-End.is ∙ x.1, x.2, x.3);
   more = omega arith;
@@ -34,7 +34,7 @@ returns-in-ok-progress-2 c = record {
 
 pub returns-else-progress : goal.returns-else-progress
 returns-else-progress c = record {
-  taken = subst (λ (l : ReadLine). Stepped c.args.text.now (λ s. take_line c.args.text.now c.args.line s (line_said l)) c.args.progress.now c.args.names.now (table c.args.cells.now c.args.given.now) c.take-row.result c.take-row.new.progress c.take-row.new.names (table c.take-row.new.cells c.take-row.new.given)) (sym c.in-Row.is)
-      (row_stepped c.args.text.now c.args.line (part_of c.in-Row.row.input) (part_of c.in-Row.row.current) (part_of c.in-Row.row.next) (part_of c.in-Row.row.output) c.args.progress.now c.args.names.now (table c.args.cells.now c.args.given.now) c.take-row.result c.take-row.new.progress c.take-row.new.names (table c.take-row.new.cells c.take-row.new.given) c.if-progress.false c.take-row.ensures.taken);
-  more = c.take-row.ensures.more;
+  taken = subst (λ (l : ReadLine). Stepped c.args.text.now (λ s. take_line c.args.text.now c.args.line s (line_said l)) c.args.progress.now c.args.names.now (table c.args.cells.now c.args.given.now) c.take_row.result c.take_row.new.progress c.take_row.new.names (table c.take_row.new.cells c.take_row.new.given)) (sym c.in-Row.is)
+      (row_stepped c.args.text.now c.args.line (part_of c.in-Row.row.input) (part_of c.in-Row.row.current) (part_of c.in-Row.row.next) (part_of c.in-Row.row.output) c.args.progress.now c.args.names.now (table c.args.cells.now c.args.given.now) c.take_row.result c.take_row.new.progress c.take_row.new.names (table c.take_row.new.cells c.take_row.new.given) c.if-progress.false c.take_row.ensures.taken);
+  more = c.take_row.ensures.more;
 }

@@ -27,8 +27,8 @@ in_order : (text : List ℕ) (ps : List Part) (first second current next : Word)
 in_order text ps first second current next names r names' count e f both =
     subst (λ (w : Word). BothEnlisted text ps (part_of current) (part_of w) names r names' count) f (subst (λ (w : Word). BothEnlisted text ps (part_of w) (part_of second) names r names' count) e both)
 
-pub number-states-requires : goal.number-states-requires
-number-states-requires c =
+pub number_states-requires : goal.number_states-requires
+number_states-requires c =
     let held = c.requires.held.1.1 in
     record {
       few = held_few held.1 held.2;
@@ -39,26 +39,26 @@ number-states-requires c =
       short = omega (arith, c.requires.short);
     }
 
-pub returns-in-err-current : goal.returns-in-err-current
-returns-in-err-current c =
+pub returns-in_err-current : goal.returns-in_err-current
+returns-in_err-current c =
     let p = err_from_is_err_and c.from-residual.result c.from-residual.ensures.1 in
-    let e = in_order c.args.text.now (take c.args.progress.now.states c.args.names.now) c.states.result.0 c.states.result.1 c.args.row.current c.args.row.next c.args.names.now (Err c.in-err-current.field-0.0) c.number-states.new.names c.number-states.new.states c.states.ensures.0 c.states.ensures.1 c.in-err-current.ensures in
+    let e = in_order c.args.text.now (take c.args.progress.now.states c.args.names.now) c.states.result.0 c.states.result.1 c.args.row.current c.args.row.next c.args.names.now (Err c.in_err-current.field-0.0) c.number_states.new.names c.number_states.new.states c.states.ensures.0 c.states.ensures.1 c.in_err-current.ensures in
     let r : Row = c.args.row in
     record {
       taken = rw (p.1, p.2) (λ old_cells old_names s sound holds.
           row_one_too_many c.args.text.now old_cells old_names c.args.progress.now c.args.names.now (table c.args.cells.now c.args.given.now) s sound holds c.args.line (part_of r.input) (part_of r.current) (part_of r.next) (part_of r.output)
-          (by_parts c.args.text.now c.args.progress.now.heading r c.requires.stands ∙ sym c.row_refusal.ensures ∙ c.in-default.is) e.1
+          (by_parts c.args.text.now c.args.progress.now.heading r c.requires.stands ∙ sym c.row_refusal.ensures ∙ c.in_default.is) e.1
           ∙ ap Err (sym e.0));
       more = omega arith;
     }
 
-pub give-row-progress-requires : goal.give-row-progress-requires
-give-row-progress-requires c =
+pub give_row-progress-requires : goal.give_row-progress-requires
+give_row-progress-requires c =
     let held = c.requires.held.1.1 in
     let r : Row = c.args.row in
     record {
-      digits = input_width held.1 held.2 r.input.bytes.now r.current.bytes.now r.next.bytes.now r.output.bytes.now (sym c.row_refusal.ensures ∙ c.in-default.is);
-      state = current_small c.args.text.now (take c.args.progress.now.states c.args.names.now) (part_of r.current) (part_of r.next) c.args.names.now (c.in-ok-current.current, c.in-ok-current.next) _ _ (in_order c.args.text.now (take c.args.progress.now.states c.args.names.now) c.states.result.0 c.states.result.1 c.args.row.current c.args.row.next c.args.names.now (Ok (c.in-ok-current.current, c.in-ok-current.next)) c.number-states.new.names c.number-states.new.states c.states.ensures.0 c.states.ensures.1 c.in-ok-current.ensures);
+      digits = input_width held.1 held.2 r.input.bytes.now r.current.bytes.now r.next.bytes.now r.output.bytes.now (sym c.row_refusal.ensures ∙ c.in_default.is);
+      state = current_small c.args.text.now (take c.args.progress.now.states c.args.names.now) (part_of r.current) (part_of r.next) c.args.names.now (c.in_ok-current.current, c.in_ok-current.next) _ _ (in_order c.args.text.now (take c.args.progress.now.states c.args.names.now) c.states.result.0 c.states.result.1 c.args.row.current c.args.row.next c.args.names.now (Ok (c.in_ok-current.current, c.in_ok-current.next)) c.number_states.new.names c.number_states.new.states c.states.ensures.0 c.states.ensures.1 c.in_ok-current.ensures);
       given = c.requires.given;
     }
 
@@ -66,14 +66,14 @@ pub returns : goal.returns
 returns c = record {
   taken = λ old_cells old_names s sound holds.
       let r : Row = c.args.row in
-      let narrow = input_width sound holds r.input.bytes.now r.current.bytes.now r.next.bytes.now r.output.bytes.now (sym c.row_refusal.ensures ∙ c.in-default.is) in
-      let small = current_small c.args.text.now (take c.args.progress.now.states c.args.names.now) (part_of r.current) (part_of r.next) c.args.names.now (c.in-ok-current.current, c.in-ok-current.next) _ _ (in_order c.args.text.now (take c.args.progress.now.states c.args.names.now) c.states.result.0 c.states.result.1 c.args.row.current c.args.row.next c.args.names.now (Ok (c.in-ok-current.current, c.in-ok-current.next)) c.number-states.new.names c.number-states.new.states c.states.ensures.0 c.states.ensures.1 c.in-ok-current.ensures) in
+      let narrow = input_width sound holds r.input.bytes.now r.current.bytes.now r.next.bytes.now r.output.bytes.now (sym c.row_refusal.ensures ∙ c.in_default.is) in
+      let small = current_small c.args.text.now (take c.args.progress.now.states c.args.names.now) (part_of r.current) (part_of r.next) c.args.names.now (c.in_ok-current.current, c.in_ok-current.next) _ _ (in_order c.args.text.now (take c.args.progress.now.states c.args.names.now) c.states.result.0 c.states.result.1 c.args.row.current c.args.row.next c.args.names.now (Ok (c.in_ok-current.current, c.in_ok-current.next)) c.number_states.new.names c.number_states.new.states c.states.ensures.0 c.states.ensures.1 c.in_ok-current.ensures) in
       row_step c.args.text.now old_cells old_names c.args.progress.now c.args.names.now (table c.args.cells.now c.args.given.now) s sound holds c.args.line (part_of c.args.row.input) (part_of c.args.row.current) (part_of c.args.row.next) (part_of c.args.row.output)
       (ap (λ (h : Heading). h.ended) (sym holds.heading) ∙ c.requires.unended)
       (c.requires.stands.input.inside, c.requires.stands.current.inside, c.requires.stands.next.inside, c.requires.stands.output.inside)
-      (by_parts c.args.text.now c.args.progress.now.heading c.args.row c.requires.stands ∙ sym c.row_refusal.ensures ∙ c.in-default.is)
-      (c.in-ok-current.current, c.in-ok-current.next) _ _ (in_order c.args.text.now (take c.args.progress.now.states c.args.names.now) c.states.result.0 c.states.result.1 c.args.row.current c.args.row.next c.args.names.now (Ok (c.in-ok-current.current, c.in-ok-current.next)) c.number-states.new.names c.number-states.new.states c.states.ensures.0 c.states.ensures.1 c.in-ok-current.ensures)
+      (by_parts c.args.text.now c.args.progress.now.heading c.args.row c.requires.stands ∙ sym c.row_refusal.ensures ∙ c.in_default.is)
+      (c.in_ok-current.current, c.in_ok-current.next) _ _ (in_order c.args.text.now (take c.args.progress.now.states c.args.names.now) c.states.result.0 c.states.result.1 c.args.row.current c.args.row.next c.args.names.now (Ok (c.in_ok-current.current, c.in_ok-current.next)) c.number_states.new.names c.number_states.new.states c.states.ensures.0 c.states.ensures.1 c.in_ok-current.ensures)
       c.args.row.input.bytes.now c.output_word.result c.requires.stands.input.bytes (c.output_word.ensures ∙ ap output_word c.requires.stands.output.bytes)
-      (let few = cells_few (c.in-ok-current.current + 1) (length c.args.row.input.bytes.now) (omega (arith, small)) narrow in omega (arith, few, c.requires.given)) c.give-row-progress.result (table c.give-row-progress.new.cells c.give-row-progress.new.given) c.give-row-progress.ensures c.give-row-progress.auto.cells;
+      (let few = cells_few (c.in_ok-current.current + 1) (length c.args.row.input.bytes.now) (omega (arith, small)) narrow in omega (arith, few, c.requires.given)) c.give_row-progress.result (table c.give_row-progress.new.cells c.give_row-progress.new.given) c.give_row-progress.ensures c.give_row-progress.auto.cells;
   more = omega arith;
 }

@@ -18,15 +18,15 @@ behind : {old new : List ℕ} {next : ℕ} (g f : Names) (vs : List (Visit Pair)
 behind {old} {new} {next} g f vs w =
     subst (λ (t : List ℕ). Left (named_lines g f vs) t old 0 new next) (sym (counted g f vs)) (left_behind (count_line (codes "equivalent ") (length vs)) (named_lines g f vs) w)
 
-pub put-count-lines-requires : goal.put-count-lines-requires
-put-count-lines-requires c =
+pub put_count-lines-requires : goal.put_count-lines-requires
+put_count-lines-requires c =
     let g = c.args.good in
     let f = c.args.faulty in
     let vs = c.args.visits.now in
     front_countable 0 (count_line (codes "equivalent ") (length vs)) (named_lines g f vs) (subst (λ (t : List ℕ). Countable 0 t) (counted g f vs) c.requires.fits)
 
-pub put-pairs-requires : goal.put-pairs-requires
-put-pairs-requires c = record { there = c.requires.there; fits = left_countable_last (behind c.args.good c.args.faulty c.args.visits.now c.put-count-lines.ensures) c.requires.fits }
+pub put_pairs-requires : goal.put_pairs-requires
+put_pairs-requires c = record { there = c.requires.there; fits = left_countable_last (behind c.args.good c.args.faulty c.args.visits.now c.put_count-lines.ensures) c.requires.fits }
 
 pub returns : goal.returns
-returns c = written_rendered (left_last (behind c.args.good c.args.faulty c.args.visits.now c.put-count-lines.ensures) c.put-pairs.ensures)
+returns c = written_rendered (left_last (behind c.args.good c.args.faulty c.args.visits.now c.put_count-lines.ensures) c.put_pairs.ensures)

@@ -15,17 +15,17 @@ module _ (a b : List ℕ) where
   end : {old one two new : List ℕ} {at k l next : ℕ} → Written a old at one k → Written (codes " ") one k two l → Written b two l new next → Left line_end (pair_line (a, b)) old at new next
   end w x y = left_more b line_end (second w x) y
 
-pub put-bytes-space-requires : goal.put-bytes-space-requires
-put-bytes-space-requires c = front_countable c.args.at c.args.first.now (codes " " ++ (c.args.second.now ++ line_end)) c.requires
+pub put_bytes-space-requires : goal.put_bytes-space-requires
+put_bytes-space-requires c = front_countable c.args.at c.args.first.now (codes " " ++ (c.args.second.now ++ line_end)) c.requires
 
-pub put-byte-place-requires : goal.put-byte-place-requires
-put-byte-place-requires c = left_countable (codes " ") (c.args.second.now ++ line_end) (space c.args.first.now c.args.second.now c.put-bytes-space.ensures) c.requires
+pub put_byte-place-requires : goal.put_byte-place-requires
+put_byte-place-requires c = left_countable (codes " ") (c.args.second.now ++ line_end) (space c.args.first.now c.args.second.now c.put_bytes-space.ensures) c.requires
 
-pub put-bytes-end-requires : goal.put-bytes-end-requires
-put-bytes-end-requires c = left_countable c.args.second.now line_end (second c.args.first.now c.args.second.now c.put-bytes-space.ensures c.put-byte-place.ensures) c.requires
+pub put_bytes-end-requires : goal.put_bytes-end-requires
+put_bytes-end-requires c = left_countable c.args.second.now line_end (second c.args.first.now c.args.second.now c.put_bytes-space.ensures c.put_byte-place.ensures) c.requires
 
-pub put-byte-requires : goal.put-byte-requires
-put-byte-requires c = left_countable_last (end c.args.first.now c.args.second.now c.put-bytes-space.ensures c.put-byte-place.ensures c.put-bytes-end.ensures) c.requires
+pub put_byte-requires : goal.put_byte-requires
+put_byte-requires c = left_countable_last (end c.args.first.now c.args.second.now c.put_bytes-space.ensures c.put_byte-place.ensures c.put_bytes-end.ensures) c.requires
 
 pub returns : goal.returns
-returns c = left_last (end c.args.first.now c.args.second.now c.put-bytes-space.ensures c.put-byte-place.ensures c.put-bytes-end.ensures) c.put-byte.ensures
+returns c = left_last (end c.args.first.now c.args.second.now c.put_bytes-space.ensures c.put_byte-place.ensures c.put_bytes-end.ensures) c.put_byte.ensures

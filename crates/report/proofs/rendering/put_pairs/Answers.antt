@@ -14,9 +14,9 @@ loop-visit-init c = all_left _ _ _
 none : Visit Pair
 none = record { position = record { first = 0; second = 0 }; from = 0; letter = 0 }
 
-pub put-pair-end-requires : goal.put-pair-end-requires
+pub put_pair-end-requires : goal.put_pair-end-requires
 unfolding none
-put-pair-end-requires c =
+put_pair-end-requires c =
     let g = c.args.good in
     let f = c.args.faulty in
     let vs = c.args.visits.now in
@@ -33,7 +33,7 @@ loop-visit-preserved c =
     let f = c.args.faulty in
     let vs = c.args.visits.now in
     let i = c.loop-visit.visit-index in
-    left_more (pair_line (visit_names g f (get_or vs i none))) (named_lines g f (drop (i + 1) vs)) (left_as (at_drop_more (named_lines g f) vs i none c.loop-visit-test.true) c.loop-visit.invariant) c.put-pair-end.ensures
+    left_more (pair_line (visit_names g f (get_or vs i none))) (named_lines g f (drop (i + 1) vs)) (left_as (at_drop_more (named_lines g f) vs i none c.loop-visit-test.true) c.loop-visit.invariant) c.put_pair-end.ensures
 
 pub returns : goal.returns
 returns c = left_none (left_as (at_drop_all (named_lines c.args.good c.args.faulty) c.args.visits.now c.loop-visit.visit-index c.loop-visit-test.false) c.loop-visit.invariant)

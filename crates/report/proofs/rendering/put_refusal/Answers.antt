@@ -34,34 +34,34 @@ module _ (r : Refusal) (w : Whom) (n : ℕ) where
 same : {old new : List ℕ} {at next : ℕ} (m n : ℕ) → m ≡ n → Written (decimal m) old at new next → Written (decimal n) old at new next
 same {old} {new} {at} {next} m n e w = subst (λ (k : ℕ). Written (decimal k) old at new next) e w
 
-pub put-bytes-number-requires : goal.put-bytes-number-requires
-put-bytes-number-requires c = front_countable 0 (codes "refused ") (decimal (refusal_number c.args.refusal) ++ space c.args.refusal c.args.whom c.args.line) c.requires
+pub put_bytes-number-requires : goal.put_bytes-number-requires
+put_bytes-number-requires c = front_countable 0 (codes "refused ") (decimal (refusal_number c.args.refusal) ++ space c.args.refusal c.args.whom c.args.line) c.requires
 
-pub put-decimal-space-requires : goal.put-decimal-space-requires
-put-decimal-space-requires c =
-    let fits = left_countable (decimal (refusal_number c.args.refusal)) (space c.args.refusal c.args.whom c.args.line) (one c.args.refusal c.args.whom c.args.line c.put-bytes-number.ensures) c.requires in
-    subst (λ (k : ℕ). Countable c.put-bytes-number.result (decimal k)) (sym c.number.ensures) fits
+pub put_decimal-space-requires : goal.put_decimal-space-requires
+put_decimal-space-requires c =
+    let fits = left_countable (decimal (refusal_number c.args.refusal)) (space c.args.refusal c.args.whom c.args.line) (one c.args.refusal c.args.whom c.args.line c.put_bytes-number.ensures) c.requires in
+    subst (λ (k : ℕ). Countable c.put_bytes-number.result (decimal k)) (sym c.number.ensures) fits
 
-pub put-byte-word-requires : goal.put-byte-word-requires
-put-byte-word-requires c =
+pub put_byte-word-requires : goal.put_byte-word-requires
+put_byte-word-requires c =
     left_countable (codes " ") (word c.args.refusal c.args.whom c.args.line)
-    (two c.args.refusal c.args.whom c.args.line c.put-bytes-number.ensures (same _ _ c.number.ensures c.put-decimal-space.ensures))
+    (two c.args.refusal c.args.whom c.args.line c.put_bytes-number.ensures (same _ _ c.number.ensures c.put_decimal-space.ensures))
     c.requires
 
-pub put-whom-place-requires : goal.put-whom-place-requires
-put-whom-place-requires c =
+pub put_whom-place-requires : goal.put_whom-place-requires
+put_whom-place-requires c =
     left_countable (whom_word c.args.whom) (place c.args.refusal c.args.whom c.args.line)
-    (three c.args.refusal c.args.whom c.args.line c.put-bytes-number.ensures (same _ _ c.number.ensures c.put-decimal-space.ensures) c.put-byte-word.ensures)
+    (three c.args.refusal c.args.whom c.args.line c.put_bytes-number.ensures (same _ _ c.number.ensures c.put_decimal-space.ensures) c.put_byte-word.ensures)
     c.requires
 
-pub put-count-requires : goal.put-count-requires
-put-count-requires c =
+pub put_count-requires : goal.put_count-requires
+put_count-requires c =
     left_countable_last
-    (four c.args.refusal c.args.whom c.args.line c.put-bytes-number.ensures (same _ _ c.number.ensures c.put-decimal-space.ensures) c.put-byte-word.ensures c.put-whom-place.ensures)
+    (four c.args.refusal c.args.whom c.args.line c.put_bytes-number.ensures (same _ _ c.number.ensures c.put_decimal-space.ensures) c.put_byte-word.ensures c.put_whom-place.ensures)
     c.requires
 
 pub returns : goal.returns
 returns c =
     written_rendered (left_last
-    (four c.args.refusal c.args.whom c.args.line c.put-bytes-number.ensures (same _ _ c.number.ensures c.put-decimal-space.ensures) c.put-byte-word.ensures c.put-whom-place.ensures)
-    c.put-count.ensures)
+    (four c.args.refusal c.args.whom c.args.line c.put_bytes-number.ensures (same _ _ c.number.ensures c.put_decimal-space.ensures) c.put_byte-word.ensures c.put_whom-place.ensures)
+    c.put_count.ensures)

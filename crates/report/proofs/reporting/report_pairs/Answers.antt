@@ -23,8 +23,8 @@ countable g f vs there few =
     (All-map Short (visit_names g f) vs (All-weaker (λ v. PairNamed g f v.position) (λ v. Short (visit_names g f v)) (λ v h. (name_short g v.position.first h.first, name_short f v.position.second h.second)) vs there))
     (omega (arith, length-map vs (visit_names g f)))
 
-pub put-listing-length-requires : goal.put-listing-length-requires
-put-listing-length-requires c = record { there = c.requires.there; fits = countable c.args.good c.args.faulty c.args.visits.now c.requires.there c.requires.few }
+pub put_listing-length-requires : goal.put_listing-length-requires
+put_listing-length-requires c = record { there = c.requires.there; fits = countable c.args.good c.args.faulty c.args.visits.now c.requires.there c.requires.few }
 
-pub put-listing-requires : goal.put-listing-requires
-put-listing-requires c = record { there = c.requires.there; fits = countable c.args.good c.args.faulty c.args.visits.now c.requires.there c.requires.few }
+pub put_listing-requires : goal.put_listing-requires
+put_listing-requires c = record { there = c.requires.there; fits = countable c.args.good c.args.faulty c.args.visits.now c.requires.there c.requires.few }

@@ -5,7 +5,7 @@ use Rattle.report.specs.Reports.{same_widths}
 use Rattle.report.specs.declared.whom.Whom.TheVariants.{Both}
 use Rattle.report.proofs.reporting.report_sources.Goals as goal
 
-pub returns-then-not-same-widths : goal.returns-then-not-same-widths
-returns-then-not-same-widths c =
+pub returns-then-not-same_widths : goal.returns-then-not-same_widths
+returns-then-not-same_widths c =
     let apart : same_widths c.args.good.shape c.args.faulty.shape ≡ false = cc in
-    (refused WidthsDiffer Both 0, inl (refl, apart), c.report-refusal.ensures)
+    (refused WidthsDiffer Both 0, inl (refl, apart), c.report_refusal.ensures)

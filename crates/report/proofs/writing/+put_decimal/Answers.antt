@@ -11,23 +11,23 @@ one n h = let e : n ≡ n % 10 = omega arith in decimal_digit n h ∙ ap (λ (k 
 whole : (n : ℕ) (old : List ℕ) (at : ℕ) → 10 ≤ n → n < 2 ^ 64 → Left (decimal (n / 10) ++ ((48 + n % 10) ∷ [])) (decimal n) old at old at
 whole n old at h fits = left_as (decimal_step n h fits) (all_left (decimal n) old at)
 
-pub put-byte-requires : goal.put-byte-requires
-put-byte-requires t c = left_countable_last (left_as (one c.args.number c.if-number-lt10.true) (all_left (decimal c.args.number) c.args.report.now c.args.at)) c.requires
+pub put_byte-requires : goal.put_byte-requires
+put_byte-requires t c = left_countable_last (left_as (one c.args.number c.if-number-lt10.true) (all_left (decimal c.args.number) c.args.report.now c.args.at)) c.requires
 
 pub returns-then-number-lt10 : goal.returns-then-number-lt10
-returns-then-number-lt10 t c = left_last (left_as (one c.args.number c.if-number-lt10.true) (all_left (decimal c.args.number) c.args.report.now c.args.at)) c.put-byte.ensures
+returns-then-number-lt10 t c = left_last (left_as (one c.args.number c.if-number-lt10.true) (all_left (decimal c.args.number) c.args.report.now c.args.at)) c.put_byte.ensures
 
-pub put-decimal-end-requires : goal.put-decimal-end-requires
-put-decimal-end-requires t c =
+pub put_decimal-end-requires : goal.put_decimal-end-requires
+put_decimal-end-requires t c =
     let n = c.args.number in
     (omega arith, left_countable (decimal (n / 10)) ((48 + n % 10) ∷ []) (whole n c.args.report.now c.args.at c.if-number-lt10.false (omega arith)) c.requires)
 
-pub put-byte-requires-2 : goal.put-byte-requires-2
-put-byte-requires-2 t c =
+pub put_byte-requires-2 : goal.put_byte-requires-2
+put_byte-requires-2 t c =
     let n = c.args.number in
-    left_countable_last (left_more (decimal (n / 10)) ((48 + n % 10) ∷ []) (whole n c.args.report.now c.args.at c.if-number-lt10.false (omega arith)) c.put-decimal-end.ensures) c.requires
+    left_countable_last (left_more (decimal (n / 10)) ((48 + n % 10) ∷ []) (whole n c.args.report.now c.args.at c.if-number-lt10.false (omega arith)) c.put_decimal-end.ensures) c.requires
 
 pub returns : goal.returns
 returns t c =
     let n = c.args.number in
-    left_last (left_more (decimal (n / 10)) ((48 + n % 10) ∷ []) (whole n c.args.report.now c.args.at c.if-number-lt10.false (omega arith)) c.put-decimal-end.ensures) c.put-byte-2.ensures
+    left_last (left_more (decimal (n / 10)) ((48 + n % 10) ∷ []) (whole n c.args.report.now c.args.at c.if-number-lt10.false (omega arith)) c.put_decimal-end.ensures) c.put_byte-2.ensures

@@ -8,8 +8,8 @@ binary_more : (n l : ℕ) → 0 < n → binary n l ≡ (48 + (l / 2 ^ (n - 1)) %
 binary_more zero l h = absurd (omega arith)
 binary_more (suc n) l h = let e : n ≡ suc n - 1 = omega arith in ap (λ (k : ℕ). (48 + (l / 2 ^ k) % 2) ∷ binary k l) e
 
-pub put-byte-end-requires : goal.put-byte-end-requires
-put-byte-end-requires c =
+pub put_byte-end-requires : goal.put_byte-end-requires
+put_byte-end-requires c =
     let n = c.loop-left.left in
     let l = c.args.letter in
     left_countable ((48 + (l / 2 ^ (n - 1)) % 2) ∷ []) (binary (n - 1) l) (left_as (binary_more n l c.loop-left-test.true) c.loop-left.invariant.1) c.requires.fits
@@ -19,4 +19,4 @@ loop-left-preserved c =
     let n = c.loop-left.left in
     let l = c.args.letter in
     let low = c.loop-left.invariant.0 in
-    (omega arith, left_more ((48 + (l / 2 ^ (n - 1)) % 2) ∷ []) (binary (n - 1) l) (left_as (binary_more n l c.loop-left-test.true) c.loop-left.invariant.1) c.put-byte-end.ensures)
+    (omega arith, left_more ((48 + (l / 2 ^ (n - 1)) % 2) ∷ []) (binary (n - 1) l) (left_as (binary_more n l c.loop-left-test.true) c.loop-left.invariant.1) c.put_byte-end.ensures)

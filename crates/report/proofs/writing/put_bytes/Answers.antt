@@ -6,8 +6,8 @@ use Rattle.report.proofs.writing.put_bytes.Goals as goal
 pub loop-byte-init : goal.loop-byte-init
 loop-byte-init c = all_left c.args.bytes.now c.args.report.now c.args.at
 
-pub put-byte-end-requires : goal.put-byte-end-requires
-put-byte-end-requires c =
+pub put_byte-end-requires : goal.put_byte-end-requires
+put_byte-end-requires c =
     let bs = c.args.bytes.now in
     let i = c.loop-byte.byte-index in
     left_countable (get_or bs i 0 ∷ []) (drop (i + 1) bs) (left_as (drop_more bs i 0 c.loop-byte-test.true) c.loop-byte.invariant) c.requires
@@ -16,7 +16,7 @@ pub loop-byte-preserved : goal.loop-byte-preserved
 loop-byte-preserved c =
     let bs = c.args.bytes.now in
     let i = c.loop-byte.byte-index in
-    left_more (get_or bs i 0 ∷ []) (drop (i + 1) bs) (left_as (drop_more bs i 0 c.loop-byte-test.true) c.loop-byte.invariant) c.put-byte-end.ensures
+    left_more (get_or bs i 0 ∷ []) (drop (i + 1) bs) (left_as (drop_more bs i 0 c.loop-byte-test.true) c.loop-byte.invariant) c.put_byte-end.ensures
 
 pub returns : goal.returns
 returns c = left_none (left_as (drop_all c.loop-byte.byte-index c.args.bytes.now c.loop-byte-test.false) c.loop-byte.invariant)

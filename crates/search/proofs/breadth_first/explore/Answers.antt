@@ -29,6 +29,6 @@ returns-in-Some-expand g c =
 
 pub returns : goal.returns
 returns g c =
-    let e = c.in-default.ensures in
+    let e = c.in_default.ensures in
     let h = e.which.0 in
     exhaustive _ (search rules) c.loop-at.list.ok.1 c.loop-at.invariant.0 (c.len.ensures ∙ e.tail) (omega arith)

@@ -15,8 +15,8 @@ entered-requires g c =
       marked = c.requires.state.marked;
     }
 
-pub overflow-cast-at : goal.overflow-cast-at
-overflow-cast-at g c =
+pub overflow_cast-at : goal.overflow_cast-at
+overflow_cast-at g c =
     let w = g.W.Walk.graph c.args.walk.now in
     let s = read_step w c.args.list.now.visits.now c.args.at c.args.letter c.at-here.result _ (c.at-here.ensures (root w)) c.in-Some.ensures in
     let sound = g.W.Walk.sound c.args.walk.now in

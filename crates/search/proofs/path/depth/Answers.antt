@@ -8,8 +8,8 @@ use Rattle.search.proofs.path.depth.Goals as goal
 back : (g : Over) (c : goal.After-index-visits-index g) → c.index-visits-index.result.from < c.loop-index.index
 back g c = link_back c.args.visits.now (c.args.at + 1) c.requires.chained c.loop-index.index c.index-visits-index.result (omega arith) c.index-visits-index.is (omega arith) (omega arith)
 
-pub overflow-cast-index : goal.overflow-cast-index
-overflow-cast-index g c = let b = back g c in omega arith
+pub overflow_cast-index : goal.overflow_cast-index
+overflow_cast-index g c = let b = back g c in omega arith
 
 pub loop-index-smaller : goal.loop-index-smaller
 loop-index-smaller g c = back g c

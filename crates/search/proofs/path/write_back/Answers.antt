@@ -19,11 +19,11 @@ loop-index-init g c =
     let none = drop_all (length out - 1 + 1) out (omega arith) in
     (omega arith, omega (arith, length-set out (length out - 1) c.args.last), omega arith, ap (λ (s : List ℕ). w ++ s) (drop-set out (length out - 1) c.args.last end ∙ ap (λ (s : List ℕ). c.args.last ∷ s) none))
 
-pub overflow-sub-place-in-loop-index : goal.overflow-sub-place-in-loop-index
-overflow-sub-place-in-loop-index g c = let m = more g c in omega arith
+pub overflow_sub-place-in-loop-index : goal.overflow_sub-place-in-loop-index
+overflow_sub-place-in-loop-index g c = let m = more g c in omega arith
 
-pub overflow-cast-index : goal.overflow-cast-index
-overflow-cast-index g c = let b = back g c in omega arith
+pub overflow_cast-index : goal.overflow_cast-index
+overflow_cast-index g c = let b = back g c in omega arith
 
 pub loop-index-smaller : goal.loop-index-smaller
 loop-index-smaller g c = back g c

@@ -2,8 +2,8 @@ use Rattle.std.proofs.Common.{◌<◌, length, refl, ◌∙◌, arith, length-se
 use Rattle.campaign.proofs.Entries.{inside_more, total_more, entries_more, length_entries}
 use Rattle.campaign.proofs.ledger.Ledger.append.Goals as goal
 
-pub invariant-of-self : goal.invariant-of-self
-invariant-of-self c =
+pub invariant_of-self : goal.invariant_of-self
+invariant_of-self c =
     let l = c.args.self.now in
     let all = l.sized in
     let low : l.count < length l.kept = omega arith in

@@ -5,8 +5,8 @@ use Rattle.campaign.proofs.Entries.{letters_entries, pasted_front, pasted_part}
 use Rattle.campaign.proofs.Parts.{pasted}
 use Rattle.campaign.proofs.ledger.Ledger.write.Goals as goal
 
-pub copy-into-requires : goal.copy-into-requires
-copy-into-requires c =
+pub copy_into-requires : goal.copy_into-requires
+copy_into-requires c =
     let l = c.args.self.now in
     let full : length l.letters ≡ 16384 = search rules in
     let rest = length-drop l.used l.letters in
@@ -20,7 +20,7 @@ returns c =
     let full : length l.letters ≡ 16384 = search rules in
     let used : l.used ≤ 16384 = l.few.1 in
     let low : l.used ≤ length l.letters = omega arith in
-    let wrote = pasted 16384 l.used l.letters s c.copy-into.new.to full used c.copy-into.ensures in
+    let wrote = pasted 16384 l.used l.letters s c.copy_into.new.to full used c.copy_into.ensures in
     let rest = drop (l.used + length s) l.letters in
     record {
       room = omega (arith, letters_entries l full);

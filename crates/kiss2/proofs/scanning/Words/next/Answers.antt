@@ -7,16 +7,16 @@ use Rattle.kiss2.proofs.scanning.Words.next.Goals as goal
 pub returns-then-length-eq0 : goal.returns-then-length-eq0
 returns-then-length-eq0 c =
     let w = c.args.self.now in
-    let found = next_found w.text.now w.at w.end c.blank-count.result c.word-length-length.result w.ok.0 w.ok.1 c.blank-count.ensures.value c.blank-count.ensures.bound c.word-length-length.ensures.value c.word-length-length.ensures.bound in
+    let found = next_found w.text.now w.at w.end c.blank_count.result c.word_length-length.result w.ok.0 w.ok.1 c.blank_count.ensures.value c.blank_count.ensures.bound c.word_length-length.ensures.value c.word_length-length.ensures.bound in
     record { words = (found.0 ∙ cond-true _ _ _ (eq-eqb _ 0 c.if-length-eq0.true), refl); text = refl; end = refl }
 
 pub returns : goal.returns
 returns c =
     let w = c.args.self.now in
     let text = w.text.now in
-    let place : ℕ = w.at + c.blank-count.result in
-    let n : ℕ = c.word-length-length.result in
-    let found = next_found text w.at w.end c.blank-count.result n w.ok.0 w.ok.1 c.blank-count.ensures.value c.blank-count.ensures.bound c.word-length-length.ensures.value c.word-length-length.ensures.bound in
+    let place : ℕ = w.at + c.blank_count.result in
+    let n : ℕ = c.word_length-length.result in
+    let found = next_found text w.at w.end c.blank_count.result n w.ok.0 w.ok.1 c.blank_count.ensures.value c.blank_count.ensures.bound c.word_length-length.ensures.value c.word_length-length.ensures.bound in
     let long = cut_length text place n found.1 in
     record {
       words = (
