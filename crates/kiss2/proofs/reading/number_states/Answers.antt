@@ -12,7 +12,7 @@ use Rattle.kiss2.proofs.reading.number_states.Goals as goal
 
 pub returns-in_err-one : goal.returns-in_err-one
 returns-in_err-one c =
-    let p = err_from_is_err_and c.from-residual.result c.from-residual.ensures.1 in
+    let p = err_from_is_err_and c.from_residual.result c.from_residual.ensures.1 in
     let e = c.in_err-one.ensures in
     let text = c.args.text.now in
     let ps : List Part = take c.args.states.now c.args.names.now in
@@ -39,7 +39,7 @@ number_state-requires-2 c =
 
 pub returns-in_err-other : goal.returns-in_err-other
 returns-in_err-other c =
-    let p = err_from_is_err_and c.from-residual-in_err-other.result c.from-residual-in_err-other.ensures.1 in
+    let p = err_from_is_err_and c.from_residual-in_err-other.result c.from_residual-in_err-other.ensures.1 in
     let e = c.in_ok-one.ensures in
     let f = c.in_err-other.ensures in
     let text = c.args.text.now in

@@ -41,7 +41,7 @@ number_states-requires c =
 
 pub returns-in_err-current : goal.returns-in_err-current
 returns-in_err-current c =
-    let p = err_from_is_err_and c.from-residual.result c.from-residual.ensures.1 in
+    let p = err_from_is_err_and c.from_residual.result c.from_residual.ensures.1 in
     let e = in_order c.args.text.now (take c.args.progress.now.states c.args.names.now) c.states.result.0 c.states.result.1 c.args.row.current c.args.row.next c.args.names.now (Err c.in_err-current.field-0.0) c.number_states.new.names c.number_states.new.states c.states.ensures.0 c.states.ensures.1 c.in_err-current.ensures in
     let r : Row = c.args.row in
     record {

@@ -7,7 +7,12 @@ invariant_of-self c =
     let l = c.args.self.now in
     let all = l.sized in
     let low : l.count < length l.kept = omega arith in
-    (length-set l.kept l.count _ ∙ all, ((omega arith, omega arith), (inside_more l.kept l.count l.used l.inside c.args.length c.args.origin low, (total_more l.kept l.count l.used l.inside c.args.length c.args.origin low l.summed, tt))))
+    record {
+      sized = length-set l.kept l.count _ ∙ all;
+      few = (omega arith, omega arith);
+      inside = inside_more l.kept l.count l.used l.inside c.args.length c.args.origin low;
+      summed = total_more l.kept l.count l.used l.inside c.args.length c.args.origin low l.summed;
+    }
 
 pub returns : goal.returns
 returns c =
