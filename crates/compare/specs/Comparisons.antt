@@ -34,6 +34,13 @@ PairsSearched m a b v w letters (Exhausted n) xs letters' = PairWork m v w × Eq
 PairsSearched m a b v w letters NoWork xs letters' = ((v < m.states * m.states) ⊎ (w < m.states * m.states)) × (letters' ≡ letters)
 PairsSearched m a b v w letters NoAnswer xs letters' = PairWork m v w × ((s : List ℕ) × LeastDistinguishing m a b s × (length letters < length s)) × (letters' ≡ letters)
 
+-- a least distinguishing sequence has no more letters than there are pairs of states, whether it was found or does not fit
+abbrev pub FewLetters : Machine → ℕ → ℕ → Found → Type 0
+FewLetters m a b (Goal n) = n ≤ m.states * m.states
+FewLetters m a b (Exhausted n) = Unit {0}
+FewLetters m a b NoWork = Unit {0}
+FewLetters m a b NoAnswer = (s : List ℕ) → LeastDistinguishing m a b s → length s ≤ m.states * m.states
+
 -- the positions of visits are written into the first entries of a slice, or do not fit
 abbrev pub Listed : {P : Type 0} → List (Visit P) → List P → Bool → List P → Type 0
 Listed xs pairs true pairs' = (length xs ≤ length pairs) × (pairs' ≡ positions xs ++ drop (length xs) pairs)

@@ -1,5 +1,5 @@
 ghost use Rattle.std.specs.Prelude.{◌≡◌, ◌≤◌, ◌++◌, length, drop};
-ghost use Rattle.compare.specs.Comparisons.{Compared, Listed, PairsSearched, positions};
+ghost use Rattle.compare.specs.Comparisons.{Compared, FewLetters, Listed, PairsSearched, positions};
 
 use super::pair_walk::PairWalk;
 use super::verdict::Verdict;
@@ -15,7 +15,8 @@ pub fn search_pairs<D: Device>(
     marks: &mut [u32],
     letters: &mut [u8],
 ) -> Found
-    ensures { PairsSearched (D.meaning device.now) first second (length visits.old) (length marks.old) letters.old result visits.new letters.new }
+    ensures answer { PairsSearched (D.meaning device.now) first second (length visits.old) (length marks.old) letters.old result visits.new letters.new }
+    ensures few { FewLetters (D.meaning device.now) first second result }
 {
     let walk = PairWalk {
         device,

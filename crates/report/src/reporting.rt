@@ -1,6 +1,6 @@
 ghost use Rattle.std.specs.Prelude.{◌≡◌, ◌≤◌, map, length};
 ghost use Rattle.std.specs.List.{AllByRecursion as All};
-ghost use Rattle.compare.specs.Comparisons.{PairsSearched};
+ghost use Rattle.compare.specs.Comparisons.{FewLetters, PairsSearched};
 ghost use Rattle.kiss2.specs.Laws.{InRange};
 ghost use Rattle.report.specs.Outcomes.{differ, equivalent, refused, rendering};
 ghost use Rattle.report.specs.Reports.{Answered, BothRead, Compared, Concludes, Reported, both_machines, names_of, same_widths};
@@ -75,7 +75,8 @@ fn search_tables(
 ) -> Found
     requires good { InRange good.names.text.now (held good) }
     requires faulty { InRange faulty.names.text.now (held faulty) }
-    ensures { PairsSearched (both_machines (held good.entry) (held faulty.entry)) 0 1 (length visits.old) (length marks.old) letters.old result visits.new letters.new }
+    ensures answer { PairsSearched (both_machines (held good.entry) (held faulty.entry)) 0 1 (length visits.old) (length marks.old) letters.old result visits.new letters.new }
+    ensures few { FewLetters (both_machines (held good.entry) (held faulty.entry)) 0 1 result }
 {
     let rivals = Rivals::new(good.table(), faulty.table());
     search_pairs(&rivals, 0, 1, visits, marks, letters)

@@ -1,7 +1,8 @@
 -- The sequence of a visit, by its back links.
-use Rattle.std.proofs.Common.{◌≡◌, ℕ, zero, suc, ◌+◌, ◌<◌, ◌≤◌, cond, ltb, ◌⊎◌, List, [], ◌∷◌, ◌++◌, length, get_or, drop, set, sym, refl, ap, ◌∙◌, inl, inr, append_assoc, arith}
+use Rattle.std.proofs.Common.{◌≡◌, ℕ, zero, suc, ◌+◌, ◌<◌, ◌≤◌, Bool, true, false, cond, ltb, ◌⊎◌, List, [], ◌∷◌, ◌++◌, length, get_or, drop, set, sym, refl, ap, ◌∙◌, inl, inr, append_assoc, arith}
 use Rattle.std.proofs.lemmas.List.{length_push, drop-set}
 use Rattle.std.proofs.lemmas.Bool.{cases_lt, cond-true, cond-false, lt-ltb, le-ltb}
+use Rattle.machine.specs.Sequences.{AtMost}
 use Rattle.search.specs.Visits.{from_at, letter_at, path_in, path, Chained}
 use Rattle.search.specs.declared.visit.Visit.{Visit}
 
@@ -14,6 +15,24 @@ pub letter_at_is : {P : Type 0} (xs : List (Visit P)) (k : ℕ) (d : Visit P) �
 letter_at_is [] k d b = absurd (omega arith)
 letter_at_is (v ∷ xs) zero d b = refl
 letter_at_is (v ∷ xs) (suc k) d b = letter_at_is xs k d (omega arith)
+
+-- f links give at most f letters
+links_letters : {P : Type 0} (xs : List (Visit P)) (f k : ℕ) → length (path_in xs f k) ≤ f
+links_letters xs zero k = omega arith
+links_letters xs (suc f) k = go (ltb 0 k) (links_letters xs f (from_at xs k))
+  where
+    go : (t : Bool) → length (path_in xs f (from_at xs k)) ≤ f → length (cond t (path_in xs f (from_at xs k) ++ letter_at xs k ∷ []) []) ≤ suc f
+    go true ih = omega (arith, length_push (path_in xs f (from_at xs k)) (letter_at xs k))
+    go false ih = omega arith
+
+-- a sequence that is at most another is no longer
+pub no_longer : (s t : List ℕ) → AtMost s t → length s ≤ length t
+no_longer s t (inl e) = let k = ap length e in omega arith
+no_longer s t (inr (inl h)) = omega arith
+no_longer s t (inr (inr h)) = let e = h.0 in omega arith
+
+pub path_short : {P : Type 0} (xs : List (Visit P)) (k : ℕ) → length (path xs k) ≤ k
+path_short xs k = links_letters xs k k
 
 module _ {P : Type 0} (xs : List (Visit P)) (n : ℕ) (chained : Chained xs n) where
   -- any number of links that is enough gives the same letters

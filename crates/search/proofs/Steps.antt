@@ -151,6 +151,10 @@ module _ {P : Type 0} {g : Graph P} {Inside : P → Type 0} (sound : Sound g Ins
     marked = λ k b. let e : 0 ≡ k = omega arith in subst (λ (x : ℕ). get_or (set marks (g.number g.start) 0) (g.number (visit g (set xs 0 (root g)) x).position) 0 ≡ x) e (ap (λ (v : Visit P). get_or (set marks (g.number g.start) 0) (g.number v.position) 0) only ∙ get_or-set_same marks (g.number g.start) 0 0 slot);
   }
 
+-- there are no more visits than numbers
+pub few_visits : {P : Type 0} {g : Graph P} {Inside : P → Type 0} {xs : List (Visit P)} {marks : List ℕ} {n h l : ℕ} → Searched g Inside xs marks n h l → Sound g Inside → n ≤ g.count
+few_visits {g = g} {xs = xs} {marks = marks} {n = n} inv sound = pigeonhole g.count n (λ k. g.number (visit g xs k).position) (λ k b. sound.number_below _ (inv.inside k b)) (λ i j a b e. sym (inv.marked i a) ∙ ap (λ (x : ℕ). get_or marks x 0) e ∙ inv.marked j b)
+
 -- there is room for a new position
 module _ {P : Type 0} {g : Graph P} {Inside : P → Type 0} {xs : List (Visit P)} {marks : List ℕ} {n h l : ℕ} (inv : Searched g Inside xs marks n h l) (sound : Sound g Inside) (q : P) (q_is : Inside q) (fresh : (k : ℕ) → k < n → (visit g xs k).position ≡ q → ⊥) where
   numbers : ℕ → ℕ

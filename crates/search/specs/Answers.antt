@@ -16,6 +16,13 @@ Written xs old None new = (length old < length xs) × (new ≡ old)
 abbrev pub Enough : {P : Type 0} → Graph P → ℕ → ℕ → Type 0
 Enough g v w = (g.count ≤ v) × (g.count ≤ w)
 
+-- a least sequence has no more letters than there are numbers, whether it was found or does not fit
+abbrev pub FewLetters : {P : Type 0} → Graph P → Found → Type 0
+FewLetters g (Goal n) = n ≤ g.count
+FewLetters g (Exhausted n) = Unit {0}
+FewLetters g WorkTooShort = Unit {0}
+FewLetters g AnswerTooShort = (s : List ℕ) → LeastGoal g s → length s ≤ g.count
+
 -- the answer over v visits, w marks and an answer slice, with what the visits and the answer slice hold afterwards
 abbrev pub Finds : {P : Type 0} → Graph P → ℕ → ℕ → List ℕ → Found → List (Visit P) → List ℕ → Type 0
 Finds g v w old (Goal n) xs new = Enough g v w × ((s : List ℕ) × LeastGoal g s × (length s ≡ n) × FirstEntries s old new)

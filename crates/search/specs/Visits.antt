@@ -94,3 +94,8 @@ pub record Exhaustive {P : Type 0} (g : Graph P) (xs : List (Visit P)) (n : ℕ)
 abbrev pub Explored : {P : Type 0} → Graph P → List (Visit P) → Outcome → Type 0
 Explored g xs (Goal at letter) = GoalAt g xs at letter
 Explored g xs (Exhausted count) = Exhaustive g xs count
+
+-- where a goal is met, it is met at one of as many visits as there are numbers
+abbrev pub MetEarly : {P : Type 0} → Graph P → Outcome → Type 0
+MetEarly g (Goal at letter) = at < g.count
+MetEarly g (Exhausted count) = Unit {0}

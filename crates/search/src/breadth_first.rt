@@ -1,5 +1,5 @@
 ghost use Rattle.std.specs.Prelude.{◌≡◌, ℕ, ◌+◌, ◌^◌, ◌<◌, ◌≤◌, length, set, slice_index, slice_set};
-ghost use Rattle.search.specs.Visits.{visit, Among, Searched, Tried, Expanded, Explored};
+ghost use Rattle.search.specs.Visits.{visit, Among, Searched, Tried, Expanded, Explored, MetEarly};
 
 use super::visit::Visit;
 use super::walk::Walk;
@@ -131,7 +131,8 @@ pub(crate) fn explore<W: Walk>(
 ) -> Outcome
     requires room { (W.graph walk.now).count ≤ length visits.old }
     requires slots { (W.graph walk.now).count ≤ length marks.old }
-    ensures { Explored (W.graph walk.now) visits.new result }
+    ensures explored { Explored (W.graph walk.now) visits.new result }
+    ensures early { MetEarly (W.graph walk.now) result }
 {
     let position = walk.start();
     let mut list = Worklist {

@@ -1,5 +1,5 @@
 ghost use Rattle.std.specs.Prelude.{◌≡◌, length};
-ghost use Rattle.search.specs.Answers.{Finds};
+ghost use Rattle.search.specs.Answers.{FewLetters, Finds};
 
 use super::breadth_first::{Outcome, explore};
 use super::path::write_path;
@@ -26,7 +26,8 @@ pub fn shortest<W: Walk>(
     marks: &mut [u32],
     answer: &mut [u8],
 ) -> Found
-    ensures { Finds (W.graph walk.now) (length visits.old) (length marks.old) answer.old result visits.new answer.new }
+    ensures answer { Finds (W.graph walk.now) (length visits.old) (length marks.old) answer.old result visits.new answer.new }
+    ensures few { FewLetters (W.graph walk.now) result }
 {
     let count = walk.count();
     if visits.len() < count || marks.len() < count {

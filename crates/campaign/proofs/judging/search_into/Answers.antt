@@ -13,4 +13,4 @@ returns g c =
     let high : start ≤ 16384 = elim c.if-ledger-lt-SEQUENCES.branch [ then-ledger-lt-SEQUENCES w ↦ omega (arith, w.start-is) | else-ledger-lt-SEQUENCES w ↦ omega (arith, w.start-is) ] in
     let open_start : l.count < 256 → start ≡ l.used = λ h. elim c.if-ledger-lt-SEQUENCES.branch [ then-ledger-lt-SEQUENCES w ↦ omega (arith, w.start-is) | else-ledger-lt-SEQUENCES w ↦ omega (arith, w.start-is, w.if-ledger-lt-SEQUENCES.false) ] in
     let full_start : 256 ≤ l.count → start ≡ 16384 = λ h. elim c.if-ledger-lt-SEQUENCES.branch [ then-ledger-lt-SEQUENCES w ↦ omega (arith, w.start-is, w.if-ledger-lt-SEQUENCES.true) | else-ledger-lt-SEQUENCES w ↦ omega (arith, w.start-is) ] in
-    searched_into (g.D.Device.meaning c.args.device.now) l _ c.args.fault _ _ start c.search_pairs.new.letters _ full low high open_start full_start refl refl refl refl refl c.search_pairs.result _ c.search_pairs.ensures
+    searched_into (g.D.Device.meaning c.args.device.now) l _ c.args.fault _ _ start c.search_pairs.new.letters _ full low high open_start full_start refl refl refl refl refl c.search_pairs.result _ c.search_pairs.ensures.answer

@@ -16,4 +16,4 @@ in_states m a q v w old WorkTooShort xs new off f = f
 in_states m a q v w old AnswerTooShort xs new off f = let s = f.1 in (f.0, (s.0, least_way m a q off s.0 s.1, s.2), f.2)
 
 pub returns : goal.returns
-returns g c = in_states _ _ _ _ _ _ c.shortest.result _ _ c.requires c.shortest.ensures
+returns g c = in_states _ _ _ _ _ _ c.shortest.result _ _ c.requires c.shortest.ensures.answer

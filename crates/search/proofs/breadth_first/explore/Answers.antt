@@ -1,7 +1,7 @@
 use Rattle.std.proofs.Common.{ℕ, ◌+◌, ◌<◌, length, set, sym, refl, ap, ◌∙◌, subst, arith, length-set, rules}
 use Rattle.search.specs.declared.visit.Visit.{Visit}
 use Rattle.search.specs.Visits.{root, visit, Searched}
-use Rattle.search.proofs.Steps.{begun, searched_same}
+use Rattle.search.proofs.Steps.{begun, few_visits, searched_same}
 use Rattle.search.proofs.Runs.{goal_at, exhaustive}
 use Rattle.search.proofs.breadth_first.explore.Goals as goal
 
@@ -25,10 +25,11 @@ loop-at-init g c =
 pub returns-in-Some-expand : goal.returns-in-Some-expand
 returns-in-Some-expand g c =
     let e = c.in-Some-expand.ensures.expanded in
-    goal_at _ (search rules) c.expand.new.list.ok.1 e.0 e.2 e.1 e.3
+    let all = few_visits e.0 (g.W.Walk.sound c.args.walk.now) in
+    record { explored = goal_at _ (search rules) c.expand.new.list.ok.1 e.0 e.2 e.1 e.3; early = omega arith }
 
 pub returns : goal.returns
 returns g c =
     let e = c.in_default.ensures in
     let h = e.which.0 in
-    exhaustive _ (search rules) c.loop-at.list.ok.1 c.loop-at.invariant.0 (c.len.ensures ∙ e.tail) (omega arith)
+    record { explored = exhaustive _ (search rules) c.loop-at.list.ok.1 c.loop-at.invariant.0 (c.len.ensures ∙ e.tail) (omega arith); early = tt }
