@@ -1,7 +1,6 @@
 -- The entries of a ledger: one more at the end, and what a write behind the used letters leaves.
-use Rattle.std.proofs.Common.{◌≡◌, ℕ, zero, suc, ◌+◌, ◌-◌, ◌<◌, ◌≤◌, not, ltb, leb, ◌⊎◌, List, [], ◌∷◌, ◌++◌, map, length, get_or, take, drop, set, sym, refl, ap, ◌∙◌, subst, inl, inr, arith}
-use borrow.Rule.Slice.PartMut.{put_mid}
-use Rattle.std.proofs.lemmas.List.{get_or-set_same, get_or-set_other, take_more_set, map_push, length-take-le, length-map, length-drop, get_or-take, get_or-map, take_at, drop_at, length-append, take-append-le}
+use Rattle.std.proofs.Common.{◌≡◌, ℕ, suc, ◌+◌, ◌-◌, ◌<◌, ◌≤◌, not, ltb, leb, ◌⊎◌, List, [], ◌∷◌, ◌++◌, map, length, get_or, take, drop, set, sym, refl, ap, ◌∙◌, subst, inl, inr, arith}
+use Rattle.std.proofs.lemmas.List.{get_or-set_same, get_or-set_other, take_more_set, map_push, length-take-le, length-map, length-drop, get_or-take, get_or-map, take_at, drop_at}
 use Rattle.std.proofs.lemmas.Bool.{cases_eq, cases_lt, lt-leb, le-leb, lt-ltb, le-ltb}
 use Rattle.campaign.specs.Bounds.{no_kept, Inside, total}
 use Rattle.campaign.specs.Books.{Entry, entry, entry_of, letters_in, numbered, book}

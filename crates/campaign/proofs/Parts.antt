@@ -1,7 +1,7 @@
 -- Parts of the letters: copying into them, and what a write leaves.
-use Rattle.std.proofs.Common.{◌≡◌, ℕ, zero, suc, ◌+◌, ◌-◌, ◌<◌, ◌≤◌, List, [], ◌∷◌, ◌++◌, map, length, get_or, take, drop, set, sym, refl, ap, ◌∙◌, arith}
+use Rattle.std.proofs.Common.{◌≡◌, ℕ, suc, ◌+◌, ◌-◌, ◌<◌, ◌≤◌, List, [], ◌∷◌, ◌++◌, map, length, get_or, take, drop, set, sym, refl, ap, ◌∙◌, arith}
 use borrow.Rule.Slice.PartMut.{put_mid}
-use Rattle.std.proofs.lemmas.List.{drop_more, take_more, set_at, length-take-le, length-append, append_assoc, append-nil, take_rest, drop-drop, drop_all, take_at, take-take, drop-take, drop_at, map_push, take_more_set}
+use Rattle.std.proofs.lemmas.List.{drop_more, take_more, set_at, length-take-le, append_assoc, append-nil, take_rest, drop-drop, drop_all, take-take, drop-take}
 use Rattle.campaign.specs.Bounds.{total}
 use Rattle.campaign.specs.declared.ledger.Kept.{Kept}
 

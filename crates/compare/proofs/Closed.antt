@@ -1,10 +1,10 @@
 -- A closed list shows that two members are equivalent, and the reachable pairs of equivalent members are a closed list.
-use Rattle.std.proofs.Common.{◌≡◌, ℕ, zero, suc, ◌+◌, ◌<◌, ◌≤◌, Bool, true, false, cond, ◌||◌, ◌⊎◌, List, [], ◌∷◌, ◌++◌, length, get_or, Ok, Err, unwrap_or, sym, refl, ap, ◌∙◌, subst, inl, inr, arith}
+use Rattle.std.proofs.Common.{◌≡◌, ℕ, zero, suc, ◌<◌, Bool, true, false, cond, List, [], ◌∷◌, ◌++◌, length, get_or, Ok, Err, unwrap_or, sym, refl, ap, ◌∙◌, subst, arith}
 use Rattle.std.proofs.lemmas.List.{length_push}
 use Rattle.std.proofs.lemmas.Bool.{cond-true, and_from, lt-ltb, or_left, or_right}
 use Rattle.machine.specs.Lists.{all}
 use Rattle.machine.specs.Machines.{Machine, Sound, reset_of, step_of}
-use Rattle.machine.specs.Outputs.{differ, outputs_from, differ_at, Equivalent}
+use Rattle.machine.specs.Outputs.{differ, outputs_from, Equivalent}
 use Rattle.machine.specs.Products.{pair, state_from, reset_pair, pair_after, pair_at, ReachablePairs}
 use Rattle.machine.specs.Sequences.{Letters}
 use Rattle.machine.specs.declared.pair.Pair.{Pair}
@@ -12,7 +12,6 @@ use Rattle.machine.specs.declared.refusal.Refusal.TheVariants.{NoSuchMember, Out
 use Rattle.compare.specs.Checks.{pair_inside, pairs_inside, listed, next_pair, flaw_at_places, finding, checked}
 use Rattle.compare.specs.Replays.{are_members}
 use Rattle.machine.proofs.Ranges.{reset_below, next_below}
-use Rattle.compare.specs.declared.finding.Finding.{Finding}
 use Rattle.compare.specs.declared.finding.Finding.TheVariants.{Closed, NoResetPair}
 use Rattle.compare.proofs.Flaws.{Good, places_good, good_places, closed_none}
 use Rattle.compare.proofs.Pairs.{differ_from}

@@ -1,11 +1,11 @@
 -- The first flaw of a list of pairs, letter by letter and place by place.
-use Rattle.std.proofs.Common.{◌≡◌, ℕ, zero, suc, ◌+◌, ◌-◌, ◌<◌, ◌≤◌, Bool, true, false, cond, ◌||◌, ◌⊎◌, List, [], ◌∷◌, length, get_or, drop, is_some, Some, None, Option, unwrap_or, sym, refl, ap, ◌∙◌, inl, inr, arith}
+use Rattle.std.proofs.Common.{◌≡◌, ℕ, zero, suc, ◌+◌, ◌-◌, ◌<◌, ◌≤◌, Bool, true, false, cond, ◌⊎◌, List, [], ◌∷◌, length, get_or, drop, is_some, Some, None, Option, unwrap_or, sym, refl, ap, ◌∙◌, inl, inr, arith}
 use Rattle.std.proofs.lemmas.List.{drop_more}
 use Rattle.std.proofs.lemmas.Bool.{or_cases, cases_lt}
-use Rattle.machine.specs.Machines.{Machine, Sound, step_of}
+use Rattle.machine.specs.Machines.{Machine, step_of}
 use Rattle.machine.specs.Outputs.{differ}
 use Rattle.machine.specs.declared.pair.Pair.{Pair}
-use Rattle.compare.specs.Checks.{pair_inside, listed, next_pair, or_else, flaw_at, flaw_at_letters, flaw_at_places}
+use Rattle.compare.specs.Checks.{listed, next_pair, or_else, flaw_at, flaw_at_letters, flaw_at_places}
 use Rattle.compare.specs.declared.finding.Finding.{Finding}
 use Rattle.compare.specs.declared.finding.Finding.TheVariants.{Closed, NoResetPair, OutputsDiffer, SuccessorMissing}
 use Rattle.compare.proofs.Tables.{same_pair, same_pair_is}

@@ -1,16 +1,16 @@
 -- The pair walk meets its goal along a sequence exactly where the outputs differ, and else leads to the pair that the product machine reaches.
-use Rattle.std.proofs.Common.{◌≡◌, ℕ, zero, suc, ◌<◌, ◌≤◌, Bool, true, false, cond, ◌⊎◌, List, [], ◌∷◌, map, length, get_or, take, Some, None, Option, sym, refl, ap, ◌∙◌, subst, inl, inr, arith}
+use Rattle.std.proofs.Common.{◌≡◌, ℕ, zero, suc, ◌<◌, ◌≤◌, Bool, true, false, cond, List, [], ◌∷◌, length, get_or, take, Some, None, Option, sym, refl, ap, ◌∙◌, subst, arith}
 use Rattle.std.proofs.lemmas.List.{length-map, length-take-le, get_or-map, get_or-take}
 use Rattle.std.proofs.lemmas.Bool.{both_ways}
-use Rattle.machine.specs.Machines.{Machine, reset_of, step_of}
+use Rattle.machine.specs.Machines.{Machine, step_of}
 use Rattle.machine.specs.Sequences.{Letters}
 use Rattle.machine.specs.Outputs.{differ, outputs_from, differ_at, Distinguishes, Equivalent, LeastDistinguishing}
 use Rattle.machine.specs.Products.{pair, state_from, reset_pair, pair_after, pair_at, LeastTo, ReachablePairs}
 use Rattle.machine.specs.declared.pair.Pair.{Pair}
-use Rattle.search.specs.Graphs.{Graph, and_then, run, LeastGoal, LeastPath}
+use Rattle.search.specs.Graphs.{and_then, run, LeastGoal, LeastPath}
 use Rattle.search.specs.Visits.{visit, root, Exhaustive}
 use Rattle.search.specs.declared.visit.Visit.{Visit}
-use Rattle.compare.specs.Walks.{pair_step, pair_graph}
+use Rattle.compare.specs.Walks.{pair_graph}
 use Rattle.compare.specs.Comparisons.{positions}
 
 none_some : {P : Type 0} {A : Type 0} (p : P) → None ≡ Some p → A

@@ -1,8 +1,8 @@
 -- The walk letter by letter and its runs are the same; what the search has found, over runs.
-use Rattle.std.proofs.Common.{◌≡◌, ℕ, ◌+◌, ◌<◌, ◌≤◌, List, [], ◌∷◌, ◌++◌, length, Some, None, Option, sym, refl, ap, ◌∙◌, subst, inl, inr, append_assoc, append-nil, arith, length-append}
+use Rattle.std.proofs.Common.{◌≡◌, ℕ, ◌<◌, ◌≤◌, List, [], ◌∷◌, ◌++◌, length, Some, None, Option, sym, refl, ap, ◌∙◌, subst, inl, inr, append_assoc, append-nil, arith, length-append}
 use Rattle.machine.specs.Sequences.{Letters, Before, AtMost}
 use Rattle.machine.proofs.Orders.{at_most_trans, at_most_antisymmetric}
-use Rattle.search.specs.Graphs.{Graph, and_then, run, LeastGoal, LeastPath}
+use Rattle.search.specs.Graphs.{Graph, and_then, run, LeastPath}
 use Rattle.search.specs.Visits.{visit, path, Searched, GoalAt, Exhaustive}
 use Rattle.search.specs.declared.visit.Visit.{Visit}
 use Rattle.search.proofs.Least.{chained, path_reach, path_less, goal_least, apart, all_covered, none_meets, path_least}

@@ -1,8 +1,8 @@
 -- The reachable pairs by a closed list and the least sequence to each.
-use Rattle.std.proofs.Common.{◌≡◌, ℕ, zero, suc, ◌<◌, ◌≤◌, Bool, true, false, ◌&&◌, ◌||◌, eqb, ltb, ◌⊎◌, List, [], ◌∷◌, length, get_or, None, sym, refl, ap, ◌∙◌, subst, inl, inr, arith}
+use Rattle.std.proofs.Common.{◌≡◌, ℕ, zero, suc, ◌<◌, Bool, true, false, ◌&&◌, ◌||◌, eqb, ltb, ◌⊎◌, List, [], ◌∷◌, length, get_or, None, sym, subst, inl, inr, arith}
 use Rattle.std.proofs.lemmas.Bool.{and_parts, or_cases, ltb-true, eqb-true, cases_order}
 use Rattle.machine.specs.Lists.{all}
-use Rattle.machine.specs.Machines.{Machine, reset_of}
+use Rattle.machine.specs.Machines.{Machine}
 use Rattle.machine.specs.Products.{pair, state_from, reset_pair, pair_after, pair_at, LeastTo, ReachablePairs}
 use Rattle.machine.specs.Sequences.{Letters, Lexical, Before}
 use Rattle.machine.specs.declared.pair.Pair.{Pair}

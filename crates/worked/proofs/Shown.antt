@@ -1,13 +1,12 @@
 -- Each worked case, by computing.
-use Rattle.std.proofs.Common.{◌≡◌, ℕ, zero, suc, ◌<◌, true, false, List, [], ◌∷◌, length, get_or, sym, refl, ap, ◌∙◌, subst, inl, inr, ⊎_elim, arith}
+use Rattle.std.proofs.Common.{◌≡◌, ℕ, zero, suc, ◌<◌, List, [], ◌∷◌, get_or, sym, refl, ap, ◌∙◌, inl, inr, ⊎_elim, arith}
 use Rattle.std.proofs.lemmas.Bool.{both_ways}
-use Rattle.machine.specs.Machines.{Machine}
-use Rattle.machine.specs.Outputs.{Equivalent, Distinguishes, LeastDistinguishing, differ_at}
-use Rattle.machine.specs.Products.{pair, pair_at, LeastWay, LeastTo, ReachablePairs}
+use Rattle.machine.specs.Outputs.{Distinguishes, LeastDistinguishing, differ_at}
+use Rattle.machine.specs.Products.{pair, pair_at, LeastTo}
 use Rattle.machine.specs.declared.pair.Pair.{Pair}
 use Rattle.compare.proofs.Closed.{closed_equivalent}
-use Rattle.campaign.specs.Books.{Entry, entry}
-use Rattle.campaign.specs.Histories.{judge, KeptBy, none, one_more, Settled, First}
+use Rattle.campaign.specs.Books.{entry}
+use Rattle.campaign.specs.Histories.{judge, KeptBy, none, one_more, Settled}
 use Rattle.worked.specs.Cases.{AllHold, cases, diagonal, telling}
 use Rattle.worked.specs.Controller.{controller, unseen}
 use Rattle.worked.proofs.Reached.{reachable_by_test}

@@ -1,5 +1,5 @@
 -- Least sequences by a computed test: to a difference, to a state, to a pair.
-use Rattle.std.proofs.Common.{◌≡◌, ℕ, Bool, true, false, not, ◌&&◌, eqb, ltb, List, [], ◌∷◌, length, is_some, Some, None, Option, sym, refl, ap, ◌∙◌, subst}
+use Rattle.std.proofs.Common.{◌≡◌, ℕ, Bool, true, not, eqb, ltb, List, [], ◌∷◌, length, is_some, Some, None, Option, refl, ap, ◌∙◌}
 use Rattle.std.proofs.lemmas.Bool.{eq-eqb, and_parts, ltb-true}
 use Rattle.machine.specs.Lists.{all}
 use Rattle.machine.specs.Machines.{Machine, reset_of, step_of}
@@ -7,7 +7,7 @@ use Rattle.machine.specs.Outputs.{LeastDistinguishing}
 use Rattle.machine.specs.Products.{pair, state_from, reset_pair, pair_after, LeastWay, LeastTo}
 use Rattle.machine.specs.Sequences.{Letters}
 use Rattle.machine.specs.declared.pair.Pair.{Pair}
-use Rattle.search.specs.Graphs.{Graph, and_then, run, LeastGoal}
+use Rattle.search.specs.Graphs.{Graph, and_then, run}
 use Rattle.compare.specs.Checks.{next_pair}
 use Rattle.compare.specs.Walks.{pair_graph}
 use Rattle.compare.proofs.Pairs.{least_distinguishing}

@@ -1,4 +1,4 @@
-use Rattle.std.proofs.Common.{◌≡◌, ◌-◌, ◌≤◌, length, refl, arith}
+use Rattle.std.proofs.Common.{length, refl, arith}
 use Rattle.campaign.proofs.Parts.{pasted}
 use Rattle.campaign.proofs.asking.paste.Goals as goal
 

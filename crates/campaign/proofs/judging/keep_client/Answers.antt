@@ -1,4 +1,4 @@
-use Rattle.std.proofs.Common.{◌≡◌, ℕ, ◌+◌, ◌<◌, ◌≤◌, List, length, sym, refl, ap, ◌∙◌, subst, arith}
+use Rattle.std.proofs.Common.{◌≡◌, ℕ, List, length, ap, ◌∙◌, subst, arith}
 use Rattle.campaign.specs.Books.{Book, book}
 use Rattle.campaign.specs.Ledgers.{part}
 use Rattle.campaign.specs.Rules.{Keeps}

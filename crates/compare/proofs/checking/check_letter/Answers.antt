@@ -1,5 +1,4 @@
-use Rattle.std.proofs.Common.{◌≡◌, ℕ, ◌*◌, ◌<◌, sym, ap, ◌∙◌, subst, arith}
-use Rattle.machine.specs.Machines.{step_of}
+use Rattle.std.proofs.Common.{ℕ, ◌<◌, sym, ap, ◌∙◌, subst, arith}
 use Rattle.machine.specs.Products.{pair}
 use Rattle.machine.proofs.Ranges.{next_below}
 use Rattle.compare.specs.Soundness.{pair_number_below, few_pairs}

@@ -1,5 +1,5 @@
-use Rattle.std.proofs.Common.{◌≡◌, ℕ, ◌+◌, ◌-◌, ◌<◌, Bool, true, false, is_some, Option, sym, refl, ap, ◌∙◌, arith}
-use Rattle.compare.specs.Checks.{or_else, flaw_at_letters, in_table}
+use Rattle.std.proofs.Common.{◌≡◌, ◌-◌, is_some, sym, ap, ◌∙◌, arith}
+use Rattle.compare.specs.Checks.{flaw_at_letters, in_table}
 use Rattle.compare.specs.declared.finding.Finding.{Finding}
 use Rattle.compare.proofs.Flaws.{or_else_some, or_else_none, letters_more, letters_all}
 use Rattle.compare.proofs.checking.check_letters.Goals as goal

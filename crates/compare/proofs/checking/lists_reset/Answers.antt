@@ -1,4 +1,4 @@
-use Rattle.std.proofs.Common.{◌≡◌, ℕ, false, get_or, sym, ap, ◌∙◌, arith}
+use Rattle.std.proofs.Common.{◌≡◌, ℕ, false, get_or, ap, ◌∙◌, arith}
 use Rattle.machine.specs.Products.{reset_pair}
 use Rattle.machine.proofs.Ranges.{reset_below}
 use Rattle.compare.specs.Soundness.{pair_number_below, few_pairs}

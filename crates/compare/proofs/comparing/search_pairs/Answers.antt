@@ -1,4 +1,4 @@
-use Rattle.std.proofs.Common.{◌≡◌, ℕ, ◌≤◌, List, length, take, arith}
+use Rattle.std.proofs.Common.{ℕ, List, take, arith}
 use Rattle.machine.specs.Machines.{Machine, Sound}
 use Rattle.machine.specs.declared.pair.Pair.{Pair}
 use Rattle.search.specs.Answers.{FewLetters as FewGoalLetters, Finds}

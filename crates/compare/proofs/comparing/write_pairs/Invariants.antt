@@ -1,4 +1,4 @@
-use Rattle.std.proofs.Common.{◌≡◌, ◌≤◌, ◌++◌, length, take, drop}
+use Rattle.std.proofs.Common.{◌≡◌, ◌++◌, take, drop}
 use Rattle.compare.specs.Comparisons.{positions}
 use Rattle.compare.proofs.comparing.write_pairs.Given as goal
 

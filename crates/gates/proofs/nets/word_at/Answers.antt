@@ -1,4 +1,4 @@
-use Rattle.std.proofs.Common.{ℕ, ◌-◌, ◌^◌, ◌<◌, sym, subst, arith}
+use Rattle.std.proofs.Common.{ℕ, ◌^◌, ◌<◌, sym, subst, arith}
 use Rattle.gates.proofs.Reading.{named_here, word_none, word_more, word_room}
 use Rattle.gates.proofs.nets.word_at.Goals as goal
 

@@ -1,5 +1,4 @@
-use Rattle.std.proofs.Common.{ℕ, ◌<◌, length, get_or, sym, refl, ap, subst, arith, rules}
-use Rattle.search.specs.declared.visit.Visit.{Visit}
+use Rattle.std.proofs.Common.{ℕ, ◌<◌, length, get_or, refl, ap, arith, rules}
 use Rattle.search.specs.Visits.{root}
 use Rattle.search.proofs.Member.{among_test, among_past}
 use Rattle.search.proofs.breadth_first.entered.Goals as goal

@@ -1,6 +1,4 @@
-use Rattle.std.proofs.Common.{ℕ, ◌+◌, ◌<◌, length, set, sym, refl, ap, ◌∙◌, subst, arith, length-set, rules}
-use Rattle.search.specs.declared.visit.Visit.{Visit}
-use Rattle.search.specs.Visits.{root, visit, Searched}
+use Rattle.std.proofs.Common.{set, sym, refl, ap, ◌∙◌, subst, arith, rules}
 use Rattle.search.proofs.Steps.{begun, few_visits, searched_same}
 use Rattle.search.proofs.Runs.{goal_at, exhaustive}
 use Rattle.search.proofs.breadth_first.explore.Goals as goal

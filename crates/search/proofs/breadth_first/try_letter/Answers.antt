@@ -1,6 +1,5 @@
-use Rattle.std.proofs.Common.{ℕ, ◌+◌, ◌<◌, length, Some, None, sym, refl, ap, ◌∙◌, subst, arith, length-set, rules}
-use Rattle.search.specs.declared.visit.Visit.{Visit}
-use Rattle.search.specs.Visits.{root, visit, Searched}
+use Rattle.std.proofs.Common.{length, Some, sym, refl, ap, ◌∙◌, arith, length-set}
+use Rattle.search.specs.Visits.{root}
 use Rattle.search.proofs.Steps.{read_step, known_step, new_step, room_for, searched_same}
 use Rattle.search.proofs.breadth_first.try_letter.Goals as goal
 

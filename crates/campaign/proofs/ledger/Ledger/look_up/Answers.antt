@@ -1,4 +1,4 @@
-use Rattle.std.proofs.Common.{◌≡◌, ℕ, ◌-◌, ◌<◌, ◌≤◌, length, sym, refl, ap, ◌∙◌, ⊎_elim, arith, rules}
+use Rattle.std.proofs.Common.{◌≡◌, length, ⊎_elim, arith, rules}
 use Rattle.campaign.proofs.Entries.{length_entries, entry_numbered}
 use Rattle.campaign.proofs.ledger.Ledger.look_up.Goals as goal
 
