@@ -1,6 +1,6 @@
 -- What is concluded from what is held is what all lines say together.
 use Rattle.std.proofs.Common.{◌≡◌, ℕ, ◌+◌, ◌-◌, ◌*◌, ◌^◌, ◌<◌, ◌≤◌, Bool, true, false, cond, not, ◌&&◌, ◌||◌, eqb, ltb, List, [], ◌∷◌, ◌++◌, map, length, get_or, take, drop, is_some, Some, None, Ok, Err, Option, Result, unwrap_or, sym, refl, ap, ◌∙◌, subst, ⊎_elim, mul-le-mul_right, arith, length-append, length-drop}
-use Rattle.std.specs.List.{range_with_len, AllByRecursion as All}
+use Rattle.std.specs.List.{range_with_len, AllByRecursion}
 use Rattle.std.proofs.lemmas.List.FromFn.{fill_by_all, get_or-map-range_with_len, length-range_with_len, length-map-range_with_len, get_or-range_with_len}
 use Rattle.std.proofs.ByRecursion.{All-weaker}
 use Rattle.std.proofs.lemmas.List.{ext_get_or, get_or_append_left, get_or-append_right, get_or-drop, get_or-take, length-take-le}
@@ -65,7 +65,7 @@ all_images f [] = refl
 all_images f (x ∷ xs) = ap (λ (b : Bool). f x && b) (all_images f xs)
 
 -- no place past the end is among the places
-among_below : (ks : List ℕ) (m k : ℕ) → All (λ j. j < m) ks → m ≤ k → among ks k ≡ false
+among_below : (ks : List ℕ) (m k : ℕ) → AllByRecursion (λ j. j < m) ks → m ≤ k → among ks k ≡ false
 among_below [] m k h l = refl
 among_below (j ∷ ks) m k (h, hs) l = or_from (eqb j k) _ (ne_eqb j k (λ e. omega (arith, h, l, e))) (among_below ks m k hs l)
 
@@ -76,11 +76,11 @@ module _ (width states : ℕ) where
       let more : t.current + 1 ≤ states = omega (arith, r.current_inside) in
       subst (λ (n : ℕ). (t.current + 1) * 2 ^ n ≤ states * 2 ^ width) (sym r.wide) (mul-le-mul_right (2 ^ width) more)
 
-  rooms : (room : ℕ) (ts : List Transition) → states * 2 ^ width ≤ room → All (RowSound width states) ts → All (RowRoom room) ts
+  rooms : (room : ℕ) (ts : List Transition) → states * 2 ^ width ≤ room → AllByRecursion (RowSound width states) ts → AllByRecursion (RowRoom room) ts
   rooms room ts h rs = All-weaker _ _ (λ t r. omega (arith, row_inside t r, h)) ts rs
 
   -- no row gives a cell past them
-  given_past : (ts : List Transition) (k : ℕ) → All (RowSound width states) ts → states * 2 ^ width ≤ k → given_at ts k ≡ None
+  given_past : (ts : List Transition) (k : ℕ) → AllByRecursion (RowSound width states) ts → states * 2 ^ width ≤ k → given_at ts k ≡ None
   given_past [] k rs h = refl
   given_past (t ∷ ts) k (r, rs) h = cond-false _ _ _ (among_below (places t.input t.current) _ k (places_below t.input t.current) (omega (arith, row_inside t r, h))) ∙ given_past ts k rs h
 

@@ -1,6 +1,6 @@
 -- What the table holds once a row is given.
 use Rattle.std.proofs.Common.{◌≡◌, ℕ, ◌+◌, ◌*◌, ◌^◌, ◌<◌, ◌≤◌, Bool, true, false, cond, ◌&&◌, ◌||◌, eqb, ◌⊎◌, List, [], ◌∷◌, ◌++◌, length, get_or, set, is_some, Some, None, Option, unwrap_or, sym, refl, ap, ◌∙◌, subst, inl, inr, ⊎_elim, arith, length-set}
-use Rattle.std.specs.List.{AllByRecursion as All}
+use Rattle.std.specs.List.{AllByRecursion}
 use Rattle.std.proofs.ByRecursion.{All-append, All-weaker}
 use Rattle.std.proofs.lemmas.List.{get_or-set_same, get_or-set_other}
 use Rattle.std.proofs.lemmas.Bool.{cases_eq, cond_both, cond-false, cond-true, eq-eqb, ne_eqb, cases_Bool}
@@ -95,7 +95,7 @@ AllPut old c f t ks =
     ((all (λ k. agrees (f k) c) ks ≡ true) × ((u : Table) × (put_all c ks t ≡ Some u) × Shows old (with_cells f c ks) u))
     ⊎ ((all (λ k. agrees (f k) c) ks ≡ false) × (put_all c ks t ≡ None))
 
-put_some : (old : List Cell) (c : Cell) (f : ℕ → Option Cell) (t : Table) (ks : List ℕ) → Shows old f t → All (λ k. k < length t.cells) ks → All (λ k. k < length t.given) ks → AllPut old c f t ks
+put_some : (old : List Cell) (c : Cell) (f : ℕ → Option Cell) (t : Table) (ks : List ℕ) → Shows old f t → AllByRecursion (λ k. k < length t.cells) ks → AllByRecursion (λ k. k < length t.given) ks → AllPut old c f t ks
 put_some old c f t [] shows hs is = inl (refl, (t, refl, shows))
 put_some old c f t (k ∷ ks) shows (h, hs) (i, is) =
     ⊎_elim
@@ -109,12 +109,12 @@ put_some old c f t (k ∷ ks) shows (h, hs) (i, is) =
     (put_one old c f t k shows h i)
 
 -- all places of a row lie below its end
-pub places_below : (ds : List ℕ) (q : ℕ) → All (λ k. k < (q + 1) * 2 ^ length ds) (places ds q)
+pub places_below : (ds : List ℕ) (q : ℕ) → AllByRecursion (λ k. k < (q + 1) * 2 ^ length ds) (places ds q)
 places_below [] q = (omega arith, tt)
 places_below (d ∷ ds) q =
     let half : (p : ℕ) → p ≤ q * 2 + 1 → (p + 1) * 2 ^ length ds ≤ (q + 1) * 2 ^ length (d ∷ ds) = λ p h. room_halves q p (length (d ∷ ds)) (length ds) _ h (omega arith) (omega arith) in
-    let from : (p : ℕ) → p ≤ q * 2 + 1 → All (λ k. k < (q + 1) * 2 ^ length (d ∷ ds)) (places ds p) = λ p h. All-weaker _ _ (λ k l. omega (arith, l, half p h)) (places ds p) (places_below ds p) in
-    cond_both (eqb d 45) _ _ (All (λ k. k < (q + 1) * 2 ^ length (d ∷ ds))) (λ _. All-append _ (places ds (q * 2)) (places ds (q * 2 + 1)) (from (q * 2) (omega arith)) (from (q * 2 + 1) (omega arith))) (λ _. from _ (cond_both (eqb d 49) 1 0 (λ (b : ℕ). q * 2 + b ≤ q * 2 + 1) (λ _. omega arith) (λ _. omega arith)))
+    let from : (p : ℕ) → p ≤ q * 2 + 1 → AllByRecursion (λ k. k < (q + 1) * 2 ^ length (d ∷ ds)) (places ds p) = λ p h. All-weaker _ _ (λ k l. omega (arith, l, half p h)) (places ds p) (places_below ds p) in
+    cond_both (eqb d 45) _ _ (AllByRecursion (λ k. k < (q + 1) * 2 ^ length (d ∷ ds))) (λ _. All-append _ (places ds (q * 2)) (places ds (q * 2 + 1)) (from (q * 2) (omega arith)) (from (q * 2 + 1) (omega arith))) (λ _. from _ (cond_both (eqb d 49) 1 0 (λ (b : ℕ). q * 2 + b ≤ q * 2 + 1) (λ _. omega arith) (λ _. omega arith)))
 
 -- what stands once a cell is put at some places
 with_cells_are : (f : ℕ → Option Cell) (c : Cell) (ks : List ℕ) (j : ℕ) → with_cells f c ks j ≡ cond (among ks j) (Some (unwrap_or (f j) c)) (f j)

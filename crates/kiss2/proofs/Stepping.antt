@@ -1,6 +1,6 @@
 -- A line takes what a reader holds to what it holds with this line.
 use Rattle.std.proofs.Common.{◌≡◌, ℕ, ◌+◌, ◌<◌, ◌≤◌, Bool, true, false, cond, eqb, ltb, leb, List, [], ◌∷◌, ◌++◌, length, take, Some, None, Ok, Err, Option, Result, unwrap_or, sym, refl, ap, ◌∙◌, subst, ⊎_elim, arith}
-use Rattle.std.specs.List.{AllByRecursion as All}
+use Rattle.std.specs.List.{AllByRecursion}
 use Rattle.std.proofs.lemmas.List.{length_push}
 use Rattle.std.proofs.lemmas.Bool.{and_parts, cond-true, cond-false, eqb-true, le-leb, lt-leb}
 use Rattle.machine.specs.declared.refusal.Refusal.{Refusal}
@@ -63,7 +63,7 @@ abbrev numbered : List ℕ → ℕ × ℕ → ℕ → Transition
 numbered input m output = record { input = input; current = m.0; next = m.1; output = output }
 
 -- a list with one element more
-all_parts : {X : Type 0} (P : X → Type 0) (xs : List X) (x : X) → All P (xs ++ x ∷ []) → All P xs × P x
+all_parts : {X : Type 0} (P : X → Type 0) (xs : List X) (x : X) → AllByRecursion P (xs ++ x ∷ []) → AllByRecursion P xs × P x
 all_parts P [] x h = (tt, h.0)
 all_parts P (y ∷ xs) x (h, hs) = let more = all_parts P xs x hs in ((h, more.0), more.1)
 
@@ -104,7 +104,7 @@ module _ (text : List ℕ) (old_cells : List Cell) (old_names : List Part) (p : 
           names_stand = first_again s.names (names_with text s.names b c) old_names names names' holds.names_stand both.2 grows (first_length s.names old_names names holds.names_stand);
           cells_stand = λ rooms.
               let parts = all_parts (RowRoom (length u.cells)) s.rows tr rooms in
-              let stands = holds.cells_stand (subst (λ (k : ℕ). All (RowRoom k) s.rows) kept parts.0) in
+              let stands = holds.cells_stand (subst (λ (k : ℕ). AllByRecursion (RowRoom k) s.rows) kept parts.0) in
               clash_more old_cells n s.rows tr s.clash r t u stands.1 (subst (λ (k : ℕ). RowRoom k tr) kept parts.1) (subst (RowRoom (length t.given)) same room)
               (subst (λ (x : Option ℕ). Gave x n tr t r u) stands.0 (subst (λ (x : Transition). Gave p.clash n x t r u) same gave));
         },

@@ -1,6 +1,6 @@
 -- What is true of the lines of a text once all are taken: each row is told, each row told is one, and without a clash they agree.
 use Rattle.std.proofs.Common.{◌≡◌, ℕ, ◌+◌, ◌<◌, Bool, true, false, cond, ◌⊎◌, List, [], ◌∷◌, ◌++◌, length, Some, None, Ok, Err, Option, Result, sym, refl, ap, ◌∙◌, subst, inl, inr, arith}
-use Rattle.std.specs.List.{ContainsAt as Has, AllByRecursion as All}
+use Rattle.std.specs.List.{ContainsAt as Has, AllByRecursion}
 use Rattle.std.proofs.ByRecursion.{All-push, All-weaker, has_append_left, has_push}
 use Rattle.std.proofs.lemmas.Bool.{and_parts}
 use Rattle.machine.specs.Lists.{all}
@@ -139,14 +139,14 @@ module _ (text : List ℕ) (P : Seen → Type 0) where
       lines_reach p l says keep enter ls in' (n + 1) x.then s' x.others
 
 -- what holds of all parts holds of each
-among_all : (P : Part → Type 0) (p : Part) (ps : List Part) → All P ps → Among p ps → P p
+among_all : (P : Part → Type 0) (p : Part) (ps : List Part) → AllByRecursion P ps → Among p ps → P p
 among_all P p [] h in' = absurd in'
 among_all P p (q ∷ ps) h (inl e) = subst P (sym e) h.0
 among_all P p (q ∷ ps) h (inr in') = among_all P p ps h.1 in'
 
 -- each transition is told by some row
 abbrev AllCame : List ℕ → Seen → Type 0
-AllCame text s = All (Came text s.names) s.rows
+AllCame text s = AllByRecursion (Came text s.names) s.rows
 
 -- a line of the text keeps that
 came_step : (text : List ℕ) (n : ℕ) (s : Seen) (p : Part) (l : Line) (s' : Seen) → Among p (lines text) → line_of text (words text p) ≡ Ok l → take_line text n s l ≡ Ok s' → AllCame text s → AllCame text s'
@@ -208,7 +208,7 @@ module _ (text : List ℕ) (s : Seen) (taken : take_lines text 1 nothing_seen (l
   lines_sound = lines_keep text (Sound text) (lines text) (λ n r p l r' in' says e h. sound_line text n r l r' h (line_inside text p l (among_all (Inside text) p (lines text) (lines_inside text) in') says) e) 1 nothing_seen s taken (sound_nothing text)
 
   -- each transition is told by some row
-  pub lines_came : All (Came text s.names) s.rows
+  pub lines_came : AllByRecursion (Came text s.names) s.rows
   lines_came = lines_keep text (AllCame text) (lines text) (came_step text) 1 nothing_seen s taken tt
 
   -- each row is told by some transition

@@ -1,7 +1,7 @@
 -- What a reader holds of the lines that it has seen.
 use Rattle.std.specs.Prelude.{◌≡◌, ℕ, ◌+◌, ◌*◌, ◌^◌, ◌<◌, ◌≤◌, false, cond, ◌⊎◌, List, length, is_some, Some, None, Ok, Err, Option, Result, nat_lt, slice_index_or}
 use Rattle.std.specs.Option.{unwrap_or}
-use Rattle.std.specs.List.{AllByRecursion as All}
+use Rattle.std.specs.List.{AllByRecursion}
 use Rattle.machine.specs.Slices.{FirstEntries}
 use Rattle.machine.specs.declared.refusal.Refusal.{Refusal}
 use Rattle.machine.specs.declared.refusal.Refusal.TheVariants.{BadName}
@@ -45,7 +45,7 @@ pub record Holds (old_cells : List Cell) (old_names : List Part) (p : Progress) 
   pub rows : p.rows ≡ length s.rows
   pub states : p.states ≡ length s.names
   pub names_stand : FirstEntries s.names old_names names
-  pub cells_stand : All (RowRoom (length t.cells)) s.rows → (p.clash ≡ s.clash) × (s.clash ≡ None → Filled old_cells s.rows t)
+  pub cells_stand : AllByRecursion (RowRoom (length t.cells)) s.rows → (p.clash ≡ s.clash) × (s.clash ≡ None → Filled old_cells s.rows t)
 
 -- they hold what some lines say
 abbrev pub Held : List ℕ → Progress → List Part → Table → Type 0

@@ -1,7 +1,7 @@
 -- What holds of the lines seen so far.
 use Rattle.std.specs.Prelude.{◌≡◌, ℕ, ◌<◌, ◌≤◌, true, List, length, is_some, Some, None, Option}
 use Rattle.std.specs.Option.{unwrap_or}
-use Rattle.std.specs.List.{AllByRecursion as All}
+use Rattle.std.specs.List.{AllByRecursion}
 use Rattle.kiss2.specs.Texts.{bytes_of}
 use Rattle.kiss2.specs.Lines.{Line, blank, directive, end, row}
 use Rattle.kiss2.specs.Laws.{Inside, entry_at}
@@ -35,7 +35,7 @@ pub record Sound (text : List ℕ) (s : Seen) : Type 0 where
   pub short_names : (q : ℕ) → q < length s.names → (entry_at s.names q).length ≤ 16
   pub names_apart : (q p : ℕ) → q < length s.names → p < length s.names → bytes_of text (entry_at s.names q) ≡ bytes_of text (entry_at s.names p) → q ≡ p
   pub widths_known : 0 < length s.rows → (is_some s.heading.inputs ≡ true) × (is_some s.heading.outputs ≡ true)
-  pub rows : All (RowSound (unwrap_or s.heading.inputs 0) (length s.names)) s.rows
+  pub rows : AllByRecursion (RowSound (unwrap_or s.heading.inputs 0) (length s.names)) s.rows
 
 -- the words of a line lie in the text
 abbrev pub LineInside : List ℕ → Line → Type 0

@@ -1,6 +1,6 @@
 -- A report has fewer bytes than a word counts.
 use Rattle.std.proofs.Common.{◌≡◌, ℕ, zero, suc, ◌+◌, ◌*◌, ◌^◌, ◌<◌, ◌≤◌, List, [], ◌∷◌, ◌++◌, length, codes, decimal, refl, suc-mul, arith, lit<, lit≤}
-use Rattle.std.specs.List.{flat_map, AllByRecursion as All}
+use Rattle.std.specs.List.{flat_map, AllByRecursion}
 use Rattle.std.proofs.lemmas.Fmt.{length-decimal-le}
 use Rattle.std.proofs.lemmas.List.{length-append}
 use Rattle.machine.specs.Refusals.{refusal_number}
@@ -13,7 +13,7 @@ use Rattle.report.specs.declared.whom.Whom.{Whom}
 use Rattle.report.specs.declared.whom.Whom.TheVariants.{Good, Faulty, Both}
 
 -- lines of at most b bytes
-lines_le : {X : Type 0} (f : X → List ℕ) (b : ℕ) (xs : List X) → All (λ x. length (f x) ≤ b) xs → length (flat_map f xs) ≤ length xs * b
+lines_le : {X : Type 0} (f : X → List ℕ) (b : ℕ) (xs : List X) → AllByRecursion (λ x. length (f x) ≤ b) xs → length (flat_map f xs) ≤ length xs * b
 lines_le f b [] h = omega arith
 lines_le f b (x ∷ xs) h =
     let rest = lines_le f b xs h.1 in
@@ -67,7 +67,7 @@ refusal_countable r w n h =
     let b = length-append (whom_word w) last in
     omega (arith, decimal_le (refusal_number r) (refusal_below r), whom_le w, count_le (codes " ") n h)
 
-letters_short : (width : ℕ) (s : List ℕ) → width ≤ 6 → All (λ l. length (letter_line width l) ≤ 7) s
+letters_short : (width : ℕ) (s : List ℕ) → width ≤ 6 → AllByRecursion (λ l. length (letter_line width l) ≤ 7) s
 letters_short width [] h = tt
 letters_short width (l ∷ s) h = (omega (arith, length-append (binary width l) line_end, length_binary width l), letters_short width s h)
 
@@ -80,13 +80,13 @@ letters_countable width s h few =
 abbrev pub Short : List ℕ × List ℕ → Type 0
 Short p = (length p.0 ≤ 16) × (length p.1 ≤ 16)
 
-pairs_short : (ps : List (List ℕ × List ℕ)) → All Short ps → All (λ p. length (pair_line p) ≤ 34) ps
+pairs_short : (ps : List (List ℕ × List ℕ)) → AllByRecursion Short ps → AllByRecursion (λ p. length (pair_line p) ≤ 34) ps
 pairs_short [] h = tt
 pairs_short (p ∷ ps) h =
     let s = h.0 in
     (omega (arith, length-append p.0 (codes " " ++ (p.1 ++ line_end)), length-append p.1 line_end), pairs_short ps h.1)
 
-pub pairs_countable : (ps : List (List ℕ × List ℕ)) → All Short ps → length ps ≤ 65536 → Countable 0 (rendering (equivalent ps))
+pub pairs_countable : (ps : List (List ℕ × List ℕ)) → AllByRecursion Short ps → length ps ≤ 65536 → Countable 0 (rendering (equivalent ps))
 pairs_countable ps h few =
     let a = length-append (count_line (codes "equivalent ") (length ps)) (flat_map pair_line ps) in
     omega (arith, count_le (codes "equivalent ") (length ps) (omega arith), lines_le pair_line 34 ps (pairs_short ps h))

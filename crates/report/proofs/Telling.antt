@@ -1,6 +1,6 @@
 -- What a search over two tables says, as the outcome of a comparison.
 use Rattle.std.proofs.Common.{◌≡◌, ℕ, ◌-◌, ◌<◌, ◌≤◌, List, [], ◌∷◌, map, length, get_or, take, drop, Result, refl, ap, ◌∙◌, subst, inl, inr, arith}
-use Rattle.std.specs.List.{AllByRecursion as All}
+use Rattle.std.specs.List.{AllByRecursion}
 use Rattle.std.proofs.ByRecursion.{All-from_get_or}
 use Rattle.std.proofs.lemmas.List.{get_or-map, length-map, take_at}
 use Rattle.machine.specs.Products.{pair, pair_at, reset_pair, ReachablePairs}
@@ -42,7 +42,7 @@ module _ (g f : Source) (good : InRange g.names.text.now (held g)) (faulty : InR
     position_at : (k : ℕ) → k < length vs → pair_at (both_machines (held g) (held f)) 0 1 (positions vs) k ≡ (get_or vs k none).position
     position_at k low = get_or-map (λ v. v.position) vs k none (reset_pair (both_machines (held g) (held f)) 0 1) low
 
-    pub pairs_named : All (λ v. PairNamed g.names f.names v.position) vs
+    pub pairs_named : AllByRecursion (λ v. PairNamed g.names f.names v.position) vs
     pairs_named = All-from_get_or (λ v. PairNamed g.names f.names v.position) vs none (λ k low.
         let small : k < length (positions vs) = omega (arith, length_positions) in
         let a = text_sound g.names.text.now (held g) good in

@@ -1,5 +1,5 @@
 ghost use Rattle.std.specs.Prelude.{◌≤◌, map};
-ghost use Rattle.std.specs.List.{flat_map, AllByRecursion as All};
+ghost use Rattle.std.specs.List.{flat_map, AllByRecursion};
 ghost use Rattle.report.specs.Outcomes.{count_line, differ, equivalent, letter_line, pair_line, refused, rendering, whom_word};
 ghost use Rattle.report.specs.Names.{PairNamed, named, named_lines, pair_names, visit_names};
 ghost use Rattle.report.specs.Writing.{Countable, Rendered, Written};
@@ -97,7 +97,7 @@ fn put_pairs(
     faulty: Names,
     visits: &[Visit<Pair>],
 ) -> usize
-    requires there { All (λ v. PairNamed good faulty v.position) visits.now }
+    requires there { AllByRecursion (λ v. PairNamed good faulty v.position) visits.now }
     requires fits { Countable at (named_lines good faulty visits.now) }
     ensures { Written (named_lines good.entry faulty.entry visits.now) report.old at report.new result }
 {
@@ -125,7 +125,7 @@ pub(crate) fn put_listing(
     faulty: Names,
     visits: &[Visit<Pair>],
 ) -> usize
-    requires there { All (λ v. PairNamed good faulty v.position) visits.now }
+    requires there { AllByRecursion (λ v. PairNamed good faulty v.position) visits.now }
     requires fits { Countable 0 (rendering (equivalent (map (visit_names good faulty) visits.now))) }
     ensures { Rendered (rendering (equivalent (map (visit_names good.entry faulty.entry) visits.now))) report.old report.new result }
 {

@@ -1,5 +1,5 @@
 ghost use Rattle.std.specs.Prelude.{◌≡◌, ◌≤◌, map, length};
-ghost use Rattle.std.specs.List.{AllByRecursion as All};
+ghost use Rattle.std.specs.List.{AllByRecursion};
 ghost use Rattle.compare.specs.Comparisons.{FewLetters, PairsSearched};
 ghost use Rattle.kiss2.specs.Laws.{InRange};
 ghost use Rattle.report.specs.Outcomes.{differ, equivalent, refused, rendering};
@@ -54,7 +54,7 @@ fn report_pairs(
     faulty: Names,
     visits: &[Visit<Pair>],
 ) -> Result<usize, Refusal>
-    requires there { All (λ v. PairNamed good faulty v.position) visits.now }
+    requires there { AllByRecursion (λ v. PairNamed good faulty v.position) visits.now }
     requires few { length visits.now ≤ 65536 }
     ensures { Answered (rendering (equivalent (map (visit_names good.entry faulty.entry) visits.now))) report.old result report.new }
 {
