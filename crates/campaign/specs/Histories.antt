@@ -20,7 +20,7 @@ pub data Call : Type 0 where
   mark : ℕ → Call
   read_out : ℕ → List ℕ → ℕ → Call
 
--- a call with what it answered, and for a read_out what the buffer then held
+-- a call with what it answered, and for a read-out what the buffer then held
 pub data Event : Type 0 where
   judged : ℕ → ℕ → ℕ → Result Judgement Refusal → Event
   admitted : List ℕ → Result ℕ Refusal → Event

@@ -1,5 +1,5 @@
 -- What the parts of a campaign do to a ledger.
-use Rattle.std.specs.Prelude.{◌≡◌, ℕ, ◌+◌, ◌<◌, ◌≤◌, Bool, true, false, ◌⊎◌, List, [], ◌∷◌, ◌++◌, length, get_or, take, drop, Some, None, Ok, Err, Option, Result, ◌≢◌, slice_index_or}
+use Rattle.std.specs.Prelude.{◌≡◌, ℕ, ◌+◌, ◌<◌, ◌≤◌, Bool, true, false, ◌⊎◌, List, [], ◌∷◌, ◌++◌, length, take, drop, Some, None, Ok, Err, Option, Result, ◌≢◌, slice_index_or}
 use Rattle.machine.specs.Machines.{Machine}
 use Rattle.machine.specs.Outputs.{Equivalent, LeastDistinguishing}
 use Rattle.machine.specs.declared.refusal.Refusal.{Refusal}
@@ -27,7 +27,7 @@ pub record SameKept (before after : Ledger) : Type 0 where
 
 -- the mark of fault f is k, and nothing else changes
 pub record Remarked (before : Ledger) (f : ℕ) (k : Mark) (after : Ledger) : Type 0 where
-  pub here : get_or after.marks f Open ≡ k
+  pub here : slice_index_or after.marks f Open ≡ k
   pub elsewhere : (g : ℕ) → (g ≢ f) → slice_index_or after.marks g Open ≡ slice_index_or before.marks g Open
   pub same : SameKept before after
 

@@ -1,5 +1,5 @@
 -- The ranges of a table, from its ghost fields.
-use Rattle.std.specs.Prelude.{◌≡◌, ℕ, ◌+◌, ◌-◌, ◌*◌, ◌<◌, true, length, get_or, take, ◌==◌, nat_lt, slice_index_or}
+use Rattle.std.specs.Prelude.{◌≡◌, ℕ, ◌+◌, ◌-◌, ◌*◌, ◌<◌, true, length, take, ◌==◌, nat_lt, slice_index_or}
 use Rattle.std.proofs.Common.{subst, arith}
 use Rattle.std.proofs.lemmas.Nat.{mul-add-lt}
 use Rattle.std.proofs.lemmas.List.{length-take-le, get_or-take}
@@ -22,7 +22,7 @@ good_inside t q l hq hl =
     ltb-true _ _ (subst (λ (c : Cell). nat_lt c.next t.states ≡ true) (get_or-take n t.cells.now i no_cell b) h)
 
 -- an altered cell leads to a state
-altered_leads : (t : Table) (k : ℕ) → k < length t.altered.now → (get_or t.altered.now k no_altered_cell).next < t.states
+altered_leads : (t : Table) (k : ℕ) → k < length t.altered.now → (slice_index_or t.altered.now k no_altered_cell).next < t.states
 altered_leads t k h =
     ltb-true _ _ (and_parts _ _ (all_at (altered_cell_inside t.letters t.states) t.altered.now k no_altered_cell h t.alterations_inside)).1
 

@@ -451,9 +451,9 @@ fn try_intake(rt: &HostRuntime, case: Intake) -> io::Result<()> {
             print!(rt; "refused {number}")?
         }
     }
-    let members = <Table<'_> as machine::Device>::members(&table);
-    let letters = <Table<'_> as machine::Device>::letters(&table);
-    let states = <Table<'_> as machine::Device>::states(&table);
+    let members = table.members();
+    let letters = table.letters();
+    let states = table.states();
     println!(rt; "; members {members}, letters {letters}, states {states}")
 }
 

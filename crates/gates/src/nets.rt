@@ -78,7 +78,7 @@ fn push_bit(word: u32, bit: bool) -> u32
 
 // The value of the net that stands at a place of a list.
 fn value_at(nets: &Nets, numbers: &[u16], place: usize) -> bool
-    requires { (place < length numbers.now) × (((k : ℕ) → k < length numbers.now → slice_index numbers.now k < 512)) }
+    requires { (place < length numbers.now) × ((k : ℕ) → k < length numbers.now → slice_index numbers.now k < 512) }
     ensures { result ≡ value_at nets.now (slice_index numbers.now place) }
 {
     nets[numbers[place] as usize]

@@ -1,5 +1,5 @@
 -- Sequences of letters and their order.
-use Rattle.std.specs.Prelude.{◌≡◌, ℕ, ◌<◌, Bool, ◌&&◌, ltb, ◌⊎◌, List, [], ◌∷◌, length, nat_le, nat_lt}
+use Rattle.std.specs.Prelude.{◌≡◌, ℕ, ◌<◌, Bool, ◌&&◌, ◌⊎◌, List, [], ◌∷◌, length, nat_le, nat_lt}
 use Rattle.machine.specs.Lists.{all}
 
 -- each letter of the sequence is below n
@@ -9,7 +9,7 @@ Letters n (l ∷ s) = (l < n) × Letters n s
 
 -- a sequence that a device of n letters takes: it has 1 to 16,384 letters, each below n
 abbrev pub legal : ℕ → List ℕ → Bool
-legal n s = nat_lt 0 (length s) && (nat_le (length s) 16384 && all (λ l. ltb l n) s)
+legal n s = nat_lt 0 (length s) && (nat_le (length s) 16384 && all (λ l. nat_lt l n) s)
 
 -- where the two first part, s has the smaller letter
 abbrev pub Lexical : List ℕ → List ℕ → Type 0
