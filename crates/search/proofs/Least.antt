@@ -147,7 +147,7 @@ module _ {P : Type 0} {g : Graph P} {Inside : P → Type 0} {xs : List (Visit P)
       go (inr y) = at_most_longer (path xs h ++ l ∷ []) s i (at_most_trans (path xs h ++ l ∷ []) (path xs y.0 ++ y.1 ∷ []) s (pair_at_most h l y.0 y.1 y.2 y.3) y.4)
 
   pub apart : (i j : ℕ) → i < n → j < n → (visit g xs i).position ≡ (visit g xs j).position → i ≡ j
-  apart i j a b e = sym (inv.marked i a) ∙ ap (λ (p : P). get_or marks (g.number p) 0) e ∙ inv.marked j b
+  apart i j a b e = sym (inv.entered.marked i a) ∙ ap (λ (p : P). get_or marks (g.number p) 0) e ∙ inv.entered.marked j b
 
   -- no pair is left: every sequence that leads somewhere leads to a visit with a sequence no greater
   pub all_covered : n ≤ h → {t : List ℕ} {p : P} → Reach g t p → (k : ℕ) × (k < n) × ((visit g xs k).position ≡ p) × AtMost (path xs k) t

@@ -1,4 +1,4 @@
-ghost use Rattle.std.specs.Prelude.{◌≡◌, ℕ, ◌+◌, ◌<◌, ◌≤◌, length, Some, None, slice_index_or, slice_set};
+ghost use Rattle.std.specs.Prelude.{◌≡◌, ℕ, ◌+◌, ◌<◌, ◌≤◌, length, IfSome, IfNone, OnSome, slice_index_or, slice_set};
 
 // First in, first out, over a lent slice. What was taken out stays readable in its place.
 #[derive(Drop)]
@@ -6,7 +6,8 @@ pub(crate) struct Worklist<'a, V> {
     pub(crate) visits: &'a mut [V],
     pub(crate) head: usize,
     pub(crate) tail: usize,
-    ghost ok: { (head ≤ tail) × (tail ≤ length visits.now) },
+    ghost ordered: { head ≤ tail },
+    ghost within: { tail ≤ length visits.now },
 }
 
 impl<'a, V: Copy> Worklist<'a, V> {
@@ -26,7 +27,11 @@ impl<'a, V: Copy> Worklist<'a, V> {
         ensures items { self.new.visits.now ≡ self.old.visits.now }
         ensures tail { self.new.tail ≡ self.old.tail }
         ensures lent { self.new.visits.ghost_name ≡ self.old.visits.ghost_name }
-        ensures which { elim result [ Some i ↦ (i ≡ self.old.head) × (self.new.head ≡ i + 1) × (i < self.old.tail) | None ↦ (self.old.head ≡ self.old.tail) × (self.new.head ≡ self.old.head) ] }
+        ensures next { IfSome result (λ index. index ≡ self.old.head) }
+        ensures left { OnSome result (self.old.head < self.old.tail) }
+        ensures taken { OnSome result (self.new.head ≡ self.old.head + 1) }
+        ensures none { IfNone result (self.old.head ≡ self.old.tail) }
+        ensures still { IfNone result (self.new.head ≡ self.old.head) }
     {
         if self.head < self.tail {
             let index = self.head;
@@ -37,7 +42,7 @@ impl<'a, V: Copy> Worklist<'a, V> {
         }
     }
 
-    pub(crate) fn at(&self, index: usize) -> V
+    pub(crate) fn get(&self, index: usize) -> V
         requires { index < self.now.tail }
         ensures { (d : V) → result ≡ slice_index_or self.now.visits.now index d }
     {
