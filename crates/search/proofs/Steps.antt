@@ -1,5 +1,5 @@
 -- One step of the search keeps what it knows of its visits.
-use Rattle.std.proofs.Common.{◌≡◌, ℕ, suc, ◌+◌, ◌<◌, ◌≤◌, cond, ltb, ◌≢◌, ◌⊎◌, List, length, get_or, set, Some, Option, sym, ap, ◌∙◌, subst, inl, inr, arith}
+use Rattle.std.proofs.Common.{◌≡◌, ℕ, suc, ◌+◌, ◌<◌, ◌≤◌, cond, ltb, ◌≢◌, ◌⊎◌, List, length, get_or, set, Some, sym, ap, ◌∙◌, subst, inl, inr, arith}
 use Rattle.std.proofs.lemmas.List.{get_or-set_same, get_or-set_other}
 use Rattle.std.proofs.lemmas.Bool.{cases_lt, cases_order, cases_eq, cond-true, cond-false, lt-ltb, le-ltb}
 use Rattle.search.proofs.Pigeonhole.{pigeonhole}
@@ -129,27 +129,6 @@ module _ {P : Type 0} {g : Graph P} {Inside : P → Type 0} {xs : List (Visit P)
             let eq : g.step (visit g ys j).position i ≡ Some (visit g ys n).position = ap (λ (x : ℕ). g.step (visit g ys x).position i) s ∙ ap (λ (x : ℕ). g.step (visit g ys h).position x) t ∙ ap (λ (v : Visit P). g.step v.position l) (old h b) ∙ e ∙ ap (λ (v : Visit P). Some v.position) (sym at_new) in
             (n, omega arith, eq, λ d. subst (λ (v : Visit P). Earlier v.from v.letter j (i + 1)) (sym at_new) (omega arith, λ _. omega arith))
 
--- the start alone
-module _ {P : Type 0} {g : Graph P} {Inside : P → Type 0} (sound : Sound g Inside) (xs : List (Visit P)) (marks : List ℕ) (room : 0 < length xs) (slot : g.number g.start < length marks) where
-  only : visit g (set xs 0 (root g)) 0 ≡ root g
-  only = get_or-set_same xs 0 (root g) (root g) room
-
-  pub begun : Searched g Inside (set xs 0 (root g)) (set marks (g.number g.start) 0) 1 0 0
-  begun = record {
-    some = omega arith;
-    first = ap (λ (v : Visit P). v.position) only;
-    entered = record {
-      inside = λ k b. let e : 0 ≡ k = omega arith in subst (λ (x : ℕ). Inside (visit g (set xs 0 (root g)) x).position) e (subst (λ (v : Visit P). Inside v.position) (sym only) sound.start_inside);
-      marked = λ k b. let e : 0 ≡ k = omega arith in subst (λ (x : ℕ). get_or (set marks (g.number g.start) 0) (g.number (visit g (set xs 0 (root g)) x).position) 0 ≡ x) e (ap (λ (v : Visit P). get_or (set marks (g.number g.start) 0) (g.number v.position) 0) only ∙ get_or-set_same marks (g.number g.start) 0 0 slot);
-    };
-    back = λ k c b. absurd (omega arith);
-    lettered = λ k c b. absurd (omega arith);
-    linked = λ k c b. absurd (omega arith);
-    ordered = λ i j c r b. absurd (omega arith);
-    found = λ k c b. absurd (omega arith);
-    expanded = λ j i c p. absurd (let a = p.0 in let e : j ≡ 0 = omega arith in let z = p.1 e in omega arith);
-  }
-
 -- there are no more visits than numbers
 pub few_visits : {P : Type 0} {g : Graph P} {Inside : P → Type 0} {xs : List (Visit P)} {marks : List ℕ} {n h l : ℕ} → Searched g Inside xs marks n h l → Sound g Inside → n ≤ g.count
 few_visits {g = g} {xs = xs} {marks = marks} {n = n} inv sound = pigeonhole g.count n (λ k. g.number (visit g xs k).position) (λ k b. sound.number_below _ (inv.entered.inside k b)) (λ i j a b e. sym (inv.entered.marked i a) ∙ ap (λ (x : ℕ). get_or marks x 0) e ∙ inv.entered.marked j b)
@@ -181,16 +160,3 @@ module _ {P : Type 0} {g : Graph P} {Inside : P → Type 0} {xs : List (Visit P)
       same i j a b (inl c) (inr d) e = absurd (fresh i c (sound.number_same _ _ (inv.entered.inside i c) q_is (sym (numbers_old i c) ∙ e ∙ numbers_new j d)))
       same i j a b (inr c) (inl d) e = absurd (fresh j d (sound.number_same _ _ (inv.entered.inside j d) q_is (sym (numbers_old j d) ∙ sym e ∙ numbers_new i c)))
       same i j a b (inr c) (inr d) e = omega arith
-
--- what a read visit says of the visit in the list
-pub read_step : {P : Type 0} (g : Graph P) (xs : List (Visit P)) (h l : ℕ) (v : Visit P) (o : Option P) → v ≡ visit g xs h → o ≡ g.step v.position l → g.step (visit g xs h).position l ≡ o
-read_step {P} g xs h l v o e s = ap (λ (w : Visit P). g.step w.position l) (sym e) ∙ sym s
-
--- the same lists and numbers by other names
-pub searched_same : {P : Type 0} {g : Graph P} {Inside : P → Type 0} {xs ys : List (Visit P)} {ms os : List ℕ} {n m h i l k : ℕ} → ys ≡ xs → os ≡ ms → m ≡ n → i ≡ h → k ≡ l → Searched g Inside xs ms n h l → Searched g Inside ys os m i k
-searched_same {P} {g} {Inside} {xs} {ys} {ms} {os} {n} {m} {h} {i} {l} {k} a b c d e s =
-    subst (λ (x : List (Visit P)). Searched g Inside x os m i k) (sym a)
-    (subst (λ (x : List ℕ). Searched g Inside xs x m i k) (sym b)
-    (subst (λ (x : ℕ). Searched g Inside xs ms x i k) (sym c)
-    (subst (λ (x : ℕ). Searched g Inside xs ms n x k) (sym d)
-    (subst (λ (x : ℕ). Searched g Inside xs ms n h x) (sym e) s))))

@@ -1,5 +1,5 @@
 -- A list of visits, each with a link back to the one that it was found from.
-use Rattle.std.specs.Prelude.{◌≡◌, ℕ, zero, suc, ◌+◌, ◌<◌, ◌≤◌, Bool, true, false, cond, List, [], ◌∷◌, ◌++◌, length, Some, None, Option, ◌≢◌, nat_lt, slice_index, slice_index_or}
+use Rattle.std.specs.Prelude.{◌≡◌, ℕ, zero, suc, ◌+◌, ◌<◌, ◌≤◌, Bool, true, false, cond, List, [], ◌∷◌, ◌++◌, length, Some, None, ◌≢◌, nat_lt, slice_index, slice_index_or}
 use Rattle.machine.specs.Sequences.{Letters, Before}
 use Rattle.search.specs.Graphs.{Graph, run, LeastGoal, LeastPath}
 use Rattle.search.specs.declared.visit.Visit.{Visit}
