@@ -1,6 +1,6 @@
 -- The sequence of a visit, by its back links.
-use Rattle.std.proofs.Common.{◌≡◌, ℕ, zero, suc, ◌+◌, ◌<◌, ◌≤◌, Bool, true, false, cond, ltb, ◌⊎◌, List, [], ◌∷◌, ◌++◌, length, get_or, drop, set, sym, refl, ap, ◌∙◌, inl, inr, append_assoc, arith}
-use Rattle.std.proofs.lemmas.List.{length_push, drop-set}
+use Rattle.std.proofs.Common.{◌≡◌, ℕ, zero, suc, ◌+◌, ◌<◌, ◌≤◌, Bool, true, false, cond, ltb, ◌⊎◌, List, [], ◌∷◌, ◌++◌, length, get_or, drop, set, reverse, sym, refl, ap, ◌∙◌, inl, inr, append_assoc, arith}
+use Rattle.std.proofs.lemmas.List.{length_push, reverse-append, reverse-reverse, drop-set}
 use Rattle.std.proofs.lemmas.Bool.{cases_lt, cond-true, cond-false, lt-ltb, le-ltb}
 use Rattle.machine.specs.Sequences.{AtMost}
 use Rattle.search.specs.Visits.{from_at, letter_at, path_in, path, Chained}
@@ -53,26 +53,25 @@ module _ {P : Type 0} (xs : List (Visit P)) (n : ℕ) (chained : Chained xs n) w
       ∙ cond-true (ltb 0 k) _ [] (lt-ltb 0 k c)
       ∙ ap (λ (s : List ℕ). s ++ letter_at xs k ∷ []) (enough_same k (from_at xs k) (from_at xs k) (omega arith) (omega arith) (omega arith))
 
-  -- the visit v that was read at place k
-  module _ (k : ℕ) (v : Visit P) (low : k < length xs) (is : v ≡ get_or xs k v) (c : 0 < k) (b : k < n) where
-    from_is : from_at xs k ≡ v.from
-    from_is = from_at_is xs k v low ∙ ap (λ (w : Visit P). w.from) (sym is)
+  -- the visit at place k
+  module _ (k : ℕ) (d : Visit P) (low : k < length xs) (c : 0 < k) (b : k < n) where
+    pub link_back : (get_or xs k d).from < k
+    link_back = let a = chained k c b in omega (arith, from_at_is xs k d low)
 
-    path_is : path xs k ≡ path xs v.from ++ v.letter ∷ []
+    pub path_is : path xs k ≡ path xs (get_or xs k d).from ++ (get_or xs k d).letter ∷ []
     path_is =
-        let letter = letter_at_is xs k v low ∙ ap (λ (w : Visit P). w.letter) (sym is) in
-        path_more k c b ∙ ap (λ (x : ℕ). path xs x ++ letter_at xs k ∷ []) from_is ∙ ap (λ (x : ℕ). path xs v.from ++ x ∷ []) letter
+        path_more k c b
+        ∙ ap (λ (x : ℕ). path xs x ++ letter_at xs k ∷ []) (from_at_is xs k d low)
+        ∙ ap (λ (x : ℕ). path xs (get_or xs k d).from ++ x ∷ []) (letter_at_is xs k d low)
 
-    pub link_back : v.from < k
-    link_back = let a = chained k c b in omega (arith, from_is)
+    -- the same from the last letter on
+    pub path_back : reverse (path xs k) ≡ (get_or xs k d).letter ∷ reverse (path xs (get_or xs k d).from)
+    path_back = ap reverse path_is ∙ reverse-append (path xs (get_or xs k d).from) ((get_or xs k d).letter ∷ [])
 
-    pub length_path_more : length (path xs k) ≡ length (path xs v.from) + 1
-    length_path_more = ap length path_is ∙ length_push (path xs v.from) v.letter
-
-    -- one letter more is written, before those that are there
-    pub written_more : (out : List ℕ) (i : ℕ) (w : List ℕ) → i < length out → path xs k ++ drop (i + 1) out ≡ w → path xs v.from ++ drop i (set out i v.letter) ≡ w
-    written_more out i w fits so =
-        ap (λ (s : List ℕ). path xs v.from ++ s) (drop-set out i v.letter fits)
-        ∙ sym (append_assoc (path xs v.from) (v.letter ∷ []) (drop (i + 1) out))
-        ∙ ap (λ (s : List ℕ). s ++ drop (i + 1) out) (sym path_is)
-        ∙ so
+-- one letter more is written, before those that are there
+pub written_more : (s t out : List ℕ) (l i : ℕ) → reverse s ≡ l ∷ reverse t → i < length out → s ++ drop (i + 1) out ≡ t ++ drop i (set out i l)
+written_more s t out l i e fits =
+    let last : s ≡ t ++ l ∷ [] = sym (reverse-reverse s) ∙ ap reverse e ∙ reverse-append (l ∷ []) (reverse t) ∙ ap (λ (u : List ℕ). u ++ l ∷ []) (reverse-reverse t) in
+    ap (λ (u : List ℕ). u ++ drop (i + 1) out) last
+    ∙ append_assoc t (l ∷ []) (drop (i + 1) out)
+    ∙ ap (λ (u : List ℕ). t ++ u) (sym (drop-set out i l fits))

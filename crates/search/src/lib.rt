@@ -1,6 +1,7 @@
 // One breadth-first search for every kind of walk, and the least sequence that meets the walk's goal.
 #![tactic(auto)]
 
+mod back_links;
 mod breadth_first;
 mod found;
 mod path;
