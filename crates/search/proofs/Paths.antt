@@ -1,7 +1,6 @@
 -- The sequence of a visit, by its back links.
-use Rattle.std.proofs.Common.{◌≡◌, ℕ, zero, suc, ◌+◌, ◌<◌, ◌≤◌, Bool, true, false, cond, ltb, ◌⊎◌, List, [], ◌∷◌, ◌++◌, length, get_or, drop, set, reverse, sym, refl, ap, ◌∙◌, inl, inr, append_assoc, arith}
+use Rattle.std.proofs.Common.{◌≡◌, ℕ, zero, suc, ◌+◌, ◌<◌, ◌≤◌, List, [], ◌∷◌, ◌++◌, length, get_or, drop, set, reverse, sym, refl, ap, ◌∙◌, inl, inr, append_assoc, arith}
 use Rattle.std.proofs.lemmas.List.{length_push, reverse-append, reverse-reverse, drop-set}
-use Rattle.std.proofs.lemmas.Bool.{cases_lt, cond-true, cond-false, lt-ltb, le-ltb}
 use Rattle.machine.specs.Sequences.{AtMost}
 use Rattle.search.specs.Visits.{from_at, letter_at, path_in, path, Chained}
 use Rattle.search.specs.declared.visit.Visit.{Visit}
@@ -19,11 +18,8 @@ letter_at_is (v ∷ xs) (suc k) d b = letter_at_is xs k d (omega arith)
 -- f links give at most f letters
 links_letters : {P : Type 0} (xs : List (Visit P)) (f k : ℕ) → length (path_in xs f k) ≤ f
 links_letters xs zero k = omega arith
-links_letters xs (suc f) k = go (ltb 0 k) (links_letters xs f (from_at xs k))
-  where
-    go : (t : Bool) → length (path_in xs f (from_at xs k)) ≤ f → length (cond t (path_in xs f (from_at xs k) ++ letter_at xs k ∷ []) []) ≤ suc f
-    go true ih = omega (arith, length_push (path_in xs f (from_at xs k)) (letter_at xs k))
-    go false ih = omega arith
+links_letters xs (suc f) zero = omega arith
+links_letters xs (suc f) (suc k) = omega (arith, length_push (path_in xs f (from_at xs (suc k))) (letter_at xs (suc k)), links_letters xs f (from_at xs (suc k)))
 
 -- a sequence that is at most another is no longer
 pub no_longer : (s t : List ℕ) → AtMost s t → length s ≤ length t
@@ -37,21 +33,21 @@ path_short xs k = links_letters xs k k
 module _ {P : Type 0} (xs : List (Visit P)) (n : ℕ) (chained : Chained xs n) where
   -- any number of links that is enough gives the same letters
   enough_same : (f e k : ℕ) → k < n → k ≤ f → k ≤ e → path_in xs f k ≡ path_in xs e k
-  enough_same zero zero k b p q = refl
-  enough_same zero (suc e) k b p q = sym (cond-false (ltb 0 k) _ [] (le-ltb 0 k p))
-  enough_same (suc f) zero k b p q = cond-false (ltb 0 k) _ [] (le-ltb 0 k q)
-  enough_same (suc f) (suc e) k b p q = go (cases_lt 0 k) (λ c. let a = chained k c b in enough_same f e (from_at xs k) (omega arith) (omega arith) (omega arith))
-    where
-      go : (0 < k) ⊎ (k ≤ 0) → (0 < k → path_in xs f (from_at xs k) ≡ path_in xs e (from_at xs k)) → path_in xs (suc f) k ≡ path_in xs (suc e) k
-      go (inl c) ih = ap (λ (s : List ℕ). cond (ltb 0 k) (s ++ letter_at xs k ∷ []) []) (ih c)
-      go (inr c) ih = cond-false (ltb 0 k) _ [] (le-ltb 0 k c) ∙ sym (cond-false (ltb 0 k) _ [] (le-ltb 0 k c))
+  enough_same zero zero zero b p q = refl
+  enough_same zero (suc e) zero b p q = refl
+  enough_same (suc f) zero zero b p q = refl
+  enough_same (suc f) (suc e) zero b p q = refl
+  enough_same zero e (suc k) b p q = absurd (omega arith)
+  enough_same (suc f) zero (suc k) b p q = absurd (omega arith)
+  enough_same (suc f) (suc e) (suc k) b p q =
+      let a = chained (suc k) (omega arith) b in
+      ap (λ (s : List ℕ). s ++ letter_at xs (suc k) ∷ []) (enough_same f e (from_at xs (suc k)) (omega arith) (omega arith) (omega arith))
 
   pub path_more : (k : ℕ) → 0 < k → k < n → path xs k ≡ path xs (from_at xs k) ++ letter_at xs k ∷ []
-  path_more k c b =
-      let a = chained k c b in
-      enough_same k (suc k) k b (omega arith) (omega arith)
-      ∙ cond-true (ltb 0 k) _ [] (lt-ltb 0 k c)
-      ∙ ap (λ (s : List ℕ). s ++ letter_at xs k ∷ []) (enough_same k (from_at xs k) (from_at xs k) (omega arith) (omega arith) (omega arith))
+  path_more zero c b = absurd (omega arith)
+  path_more (suc k) c b =
+      let a = chained (suc k) c b in
+      ap (λ (s : List ℕ). s ++ letter_at xs (suc k) ∷ []) (enough_same k (from_at xs (suc k)) (from_at xs (suc k)) (omega arith) (omega arith) (omega arith))
 
   -- the visit at place k
   module _ (k : ℕ) (d : Visit P) (low : k < length xs) (c : 0 < k) (b : k < n) where

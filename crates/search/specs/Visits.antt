@@ -1,5 +1,5 @@
 -- A list of visits, each with a link back to the one that it was found from.
-use Rattle.std.specs.Prelude.{◌≡◌, ℕ, zero, suc, ◌+◌, ◌<◌, ◌≤◌, Bool, true, false, cond, List, [], ◌∷◌, ◌++◌, length, Some, None, ◌≢◌, nat_lt, slice_index, slice_index_or}
+use Rattle.std.specs.Prelude.{◌≡◌, ℕ, zero, suc, ◌+◌, ◌<◌, ◌≤◌, Bool, true, false, List, [], ◌∷◌, ◌++◌, length, Some, None, ◌≢◌, slice_index, slice_index_or}
 use Rattle.machine.specs.Sequences.{Letters, Before}
 use Rattle.search.specs.Graphs.{Graph, run, LeastGoal, LeastPath}
 use Rattle.search.specs.declared.visit.Visit.{Visit}
@@ -29,7 +29,8 @@ letter_at (v ∷ xs) (suc k) = letter_at xs k
 -- the letters along the back links from place k to the start, at most f of them
 abbrev pub path_in : {P : Type 0} → List (Visit P) → ℕ → ℕ → List ℕ
 path_in xs zero k = []
-path_in xs (suc f) k = cond (nat_lt 0 k) (path_in xs f (from_at xs k) ++ letter_at xs k ∷ []) []
+path_in xs (suc f) zero = []
+path_in xs (suc f) (suc k) = path_in xs f (from_at xs (suc k)) ++ letter_at xs (suc k) ∷ []
 
 -- the sequence that leads to the visit at place k
 abbrev pub path : {P : Type 0} → List (Visit P) → ℕ → List ℕ

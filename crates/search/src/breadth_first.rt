@@ -6,6 +6,7 @@ use super::walk::Walk;
 use super::worklist::Worklist;
 
 // How a search ends: the letter meets the goal at the visit, or none can and the first `count` visits are all there are.
+// Not a `Found` with a parameter for what a goal carries: its callers would read `Found<usize>`, and `length` would lose its name.
 #[derive(Clone, Copy)]
 pub(crate) enum Outcome {
     Goal { at: usize, letter: u8 },
@@ -38,9 +39,9 @@ impl<'a, W: Walk> Search<'a, W> {
     // Appends a visit and marks its position.
     fn enter(&mut self, list: &mut Worklist<Visit<W::Position>>, visit: Visit<W::Position>)
         requires inside { W.Inside self.old.walk.now visit.position }
-        requires room { list.old.tail < length list.old.visits.now }
+        requires room { list.old.tail < length list.old.items.now }
         requires few { list.old.tail < 2 ^ 32 }
-        ensures visits { list.new.visits.now ≡ slice_set list.old.visits.now list.old.tail visit }
+        ensures items { list.new.items.now ≡ slice_set list.old.items.now list.old.tail visit }
         ensures marks { self.new.marks.now ≡ slice_set self.old.marks.now ((W.graph self.old.walk.now).number visit.position) list.old.tail }
         ensures tail { list.new.tail ≡ list.old.tail + 1 }
         ensures walk { self.new.walk ≡ self.old.walk }
@@ -54,7 +55,7 @@ impl<'a, W: Walk> Search<'a, W> {
 
     // Tries one letter at a visit: true where it meets the goal. A new position is entered as soon as it is found.
     fn try_letter(&mut self, list: &mut Worklist<Visit<W::Position>>, at: usize, letter: u8) -> bool
-        requires room { (W.graph self.old.walk.now).count ≤ length list.old.visits.now }
+        requires room { (W.graph self.old.walk.now).count ≤ length list.old.items.now }
         requires tried { HasTried self.old list.old at letter }
         requires inside { at < list.old.tail }
         requires lettered { letter < (W.graph self.old.walk.now).letters }
@@ -83,13 +84,14 @@ impl<'a, W: Walk> Search<'a, W> {
 
     // Tries the letters at a visit in rising order: the first that meets the goal.
     fn expand(&mut self, list: &mut Worklist<Visit<W::Position>>, at: usize) -> Option<u8>
-        requires room { (W.graph self.old.walk.now).count ≤ length list.old.visits.now }
+        requires room { (W.graph self.old.walk.now).count ≤ length list.old.items.now }
         requires tried { HasTried self.old list.old at 0 }
         requires inside { at < list.old.tail }
         ensures expanded { Expanded self.new list.new at result }
         ensures walk { self.new.walk ≡ self.old.walk }
         ensures continues { Continues list.old list.new }
     {
+        // A loop, since nothing is known of a list that the closure of a `find` changes.
         for letter in 0..self.walk.letters() {
             if self.try_letter(list, at, letter) {
                 return Some(letter);
@@ -113,7 +115,7 @@ pub(crate) fn explore<W: Walk>(
     let position = walk.start();
     let mut search = Search { walk, marks };
     let mut list = Worklist {
-        visits,
+        items: visits,
         head: 0,
         tail: 0,
     };
