@@ -5,9 +5,9 @@ use Rattle.std.proofs.lemmas.Bool.{cases_lt, cases_order}
 use Rattle.machine.specs.Sequences.{Before, AtMost}
 use Rattle.machine.proofs.Orders.{before_push, before_last, at_most_trans, at_most_push, at_most_longer}
 use Rattle.search.specs.Graphs.{Graph}
-use Rattle.search.specs.Visits.{root, visit, letter_at, path, Chained, Earlier, Searched}
+use Rattle.search.specs.Visits.{root, visit, path, Chained, Earlier, Searched}
 use Rattle.search.specs.declared.visit.Visit.{Visit}
-use Rattle.search.proofs.Paths.{from_at_is, letter_at_is, path_more}
+use Rattle.search.proofs.Paths.{from_at_is, path_is}
 use Rattle.search.proofs.Reaches.{Reach, begin, onward, Meets, met}
 
 -- a pair is tried before another or not
@@ -25,10 +25,7 @@ module _ {P : Type 0} {g : Graph P} {Inside : P → Type 0} {xs : List (Visit P)
   chained k c b = let a = inv.back k c b in omega (arith, from_at_is xs k (root g) (omega arith))
 
   path_next : (k : ℕ) → 0 < k → k < n → path xs k ≡ path xs (visit g xs k).from ++ (visit g xs k).letter ∷ []
-  path_next k c b =
-      path_more xs n chained k c b
-      ∙ ap (λ (x : ℕ). path xs x ++ letter_at xs k ∷ []) (from_at_is xs k (root g) (omega arith))
-      ∙ ap (λ (x : ℕ). path xs (visit g xs k).from ++ x ∷ []) (letter_at_is xs k (root g) (omega arith))
+  path_next k c b = path_is xs n chained k (root g) (omega arith) c b
 
   -- the sequences rise with the place
   path_rises : (f i j : ℕ) → j < f → i < j → j < n → Before (path xs i) (path xs j)
@@ -147,7 +144,7 @@ module _ {P : Type 0} {g : Graph P} {Inside : P → Type 0} {xs : List (Visit P)
       go (inr y) = at_most_longer (path xs h ++ l ∷ []) s i (at_most_trans (path xs h ++ l ∷ []) (path xs y.0 ++ y.1 ∷ []) s (pair_at_most h l y.0 y.1 y.2 y.3) y.4)
 
   pub apart : (i j : ℕ) → i < n → j < n → (visit g xs i).position ≡ (visit g xs j).position → i ≡ j
-  apart i j a b e = sym (inv.marked i a) ∙ ap (λ (p : P). get_or marks (g.number p) 0) e ∙ inv.marked j b
+  apart i j a b e = sym (inv.entered.marked i a) ∙ ap (λ (p : P). get_or marks (g.number p) 0) e ∙ inv.entered.marked j b
 
   -- no pair is left: every sequence that leads somewhere leads to a visit with a sequence no greater
   pub all_covered : n ≤ h → {t : List ℕ} {p : P} → Reach g t p → (k : ℕ) × (k < n) × ((visit g xs k).position ≡ p) × AtMost (path xs k) t

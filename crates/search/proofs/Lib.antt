@@ -3,5 +3,4 @@ pub mod Paths
 pub mod Reaches
 pub mod Least
 pub mod Steps
-pub mod Member
 pub mod Runs

@@ -73,11 +73,11 @@ module _ {P : Type 0} (g : Graph P) where
   least_same : (p : P) (s t : List ℕ) → LeastPath g p s → LeastPath g p t → s ≡ t
   least_same p s t a b = at_most_antisymmetric s t (a.least t b.letters b.leads) (b.least s a.letters a.leads)
 
-  module _ {Inside : P → Type 0} {xs ys : List (Visit P)} {marks : List ℕ} {n h l : ℕ} (same : ys ≡ xs) (fits : n ≤ length xs) (inv : Searched g Inside xs marks n h l) where
-    pub goal_at : h < n → l < g.letters → g.step (visit g xs h).position l ≡ None → GoalAt g ys h l
+  module _ {Inside : P → Type 0} {xs ys : List (Visit P)} {marks : List ℕ} {n h l : ℕ} {f : Graph P} (walk : g ≡ f) (same : ys ≡ xs) (fits : n ≤ length xs) (inv : Searched g Inside xs marks n h l) where
+    pub goal_at : h < n → l < g.letters → g.step (visit g xs h).position l ≡ None → GoalAt f ys h l
     goal_at b c e =
         let m = met (path_reach inv fits h b) c e in
-        subst (λ (zs : List (Visit P)). GoalAt g zs h l) (sym same) (record {
+        subst (λ (k : Graph P). GoalAt k ys h l) walk (subst (λ (zs : List (Visit P)). GoalAt g zs h l) (sym same) (record {
           inside = omega arith;
           chained = λ k d r. chained inv fits k d (omega arith);
           least = record {
@@ -85,7 +85,7 @@ module _ {P : Type 0} (g : Graph P) where
             meets = meets_run m;
             least = λ t d o. let v = run_meets t [] g.start begin d o in at_most_trans (path xs h ++ l ∷ []) v.0 t (goal_least inv fits b v.1) v.2;
           };
-        })
+        }))
 
     path_is_least : n ≤ h → (k : ℕ) → k < n → LeastPath g (visit g xs k).position (path xs k)
     path_is_least o k b = record {
@@ -94,9 +94,9 @@ module _ {P : Type 0} (g : Graph P) where
       least = λ t c e. path_least inv fits o k b (run_reach t [] g.start (visit g xs k).position begin c e);
     }
 
-    pub exhaustive : {m : ℕ} → m ≡ n → n ≤ h → Exhaustive g ys m
+    pub exhaustive : {m : ℕ} → m ≡ n → n ≤ h → Exhaustive f ys m
     exhaustive {m} size o =
-        subst (λ (zs : List (Visit P)). Exhaustive g zs m) (sym same) (subst (λ (k : ℕ). Exhaustive g xs k) (sym size) (record {
+        subst (λ (k : Graph P). Exhaustive k ys m) walk (subst (λ (zs : List (Visit P)). Exhaustive g zs m) (sym same) (subst (λ (k : ℕ). Exhaustive g xs k) (sym size) (record {
           fits = fits;
           never = λ t c e. let v = run_meets t [] g.start begin c e in none_meets inv fits o v.1;
           every = λ t p c e. let v = all_covered inv fits o (run_reach t [] g.start p begin c e) in (v.0, v.1, v.2);
@@ -107,4 +107,4 @@ module _ {P : Type 0} (g : Graph P) where
               let u = least_same _ (path xs i) s (path_is_least o i a) c in
               let v = least_same _ (path xs j) t (path_is_least o j b) d in
               subst (λ (x : List ℕ). Before x t) u (subst (λ (x : List ℕ). Before (path xs i) x) v (path_less inv fits i j r b));
-        }))
+        })))

@@ -1,5 +1,5 @@
 -- One step of the search keeps what it knows of its visits.
-use Rattle.std.proofs.Common.{◌≡◌, ℕ, suc, ◌+◌, ◌<◌, ◌≤◌, cond, ltb, ◌≢◌, ◌⊎◌, List, length, get_or, set, Some, Option, sym, ap, ◌∙◌, subst, inl, inr, arith}
+use Rattle.std.proofs.Common.{◌≡◌, ℕ, suc, ◌+◌, ◌<◌, ◌≤◌, cond, ltb, ◌≢◌, ◌⊎◌, List, length, get_or, set, Some, sym, ap, ◌∙◌, subst, inl, inr, arith}
 use Rattle.std.proofs.lemmas.List.{get_or-set_same, get_or-set_other}
 use Rattle.std.proofs.lemmas.Bool.{cases_lt, cases_order, cases_eq, cond-true, cond-false, lt-ltb, le-ltb}
 use Rattle.search.proofs.Pigeonhole.{pigeonhole}
@@ -26,14 +26,13 @@ module _ {P : Type 0} {g : Graph P} {Inside : P → Type 0} {xs : List (Visit P)
   known_step m b e = record {
     some = inv.some;
     first = inv.first;
-    inside = inv.inside;
+    entered = inv.entered;
     back = inv.back;
     lettered = inv.lettered;
     linked = inv.linked;
     ordered = inv.ordered;
     found = λ k c d. earlier_next _ _ _ _ (inv.found k c d);
     expanded = λ j i c p. go j i c (earlier_last j i h l p);
-    marked = inv.marked;
   }
     where
       go : (j i : ℕ) → i < g.letters → Earlier j i h l ⊎ ((j ≡ h) × (i ≡ l)) → Led g xs n j i
@@ -45,14 +44,13 @@ module _ {P : Type 0} {g : Graph P} {Inside : P → Type 0} {xs : List (Visit P)
   next_visit e = record {
     some = inv.some;
     first = inv.first;
-    inside = inv.inside;
+    entered = inv.entered;
     back = inv.back;
     lettered = inv.lettered;
     linked = inv.linked;
     ordered = inv.ordered;
     found = λ k c d. let f = (inv.found k c d).0 in (omega arith, λ z. absurd (omega arith));
     expanded = λ j i c p. inv.expanded j i c (let q = p.0 in before j i p, λ _. omega arith);
-    marked = inv.marked;
   }
     where
       before : (j i : ℕ) → Earlier j i (h + 1) 0 → j ≤ h
@@ -71,7 +69,7 @@ module _ {P : Type 0} {g : Graph P} {Inside : P → Type 0} {xs : List (Visit P)
     ys = set xs n (record { position = q; from = h; letter = l })
 
     q_is : Inside q
-    q_is = sound.step_inside (visit g xs h).position l q (inv.inside h b) c e
+    q_is = sound.step_inside (visit g xs h).position l q (inv.entered.inside h b) c e
 
     old : (k : ℕ) → k < n → visit g ys k ≡ visit g xs k
     unfolding ys
@@ -94,27 +92,26 @@ module _ {P : Type 0} {g : Graph P} {Inside : P → Type 0} {xs : List (Visit P)
     new_step = record {
       some = omega arith;
       first = ap (λ (v : Visit P). v.position) (old 0 inv.some) ∙ inv.first;
-      inside = λ k d. isn k d (cases_lt 0 k);
+      entered = record { inside = λ k d. isn k d (cases_lt 0 k); marked = λ k r. mark k r (cases_lt k n) };
       back = every (λ k v. v.from < k) (λ k d r. inv.back k d r) b;
       lettered = every (λ k v. v.letter < g.letters) (λ k d r. inv.lettered k d r) c;
       linked = every (λ k v. g.step (visit g ys v.from).position v.letter ≡ Some v.position) (λ k d r. let u = inv.back k d r in ap (λ (v : Visit P). g.step v.position (visit g xs k).letter) (old (visit g xs k).from (omega arith)) ∙ inv.linked k d r) (ap (λ (v : Visit P). g.step v.position l) (old h b) ∙ e);
       ordered = λ i j d r o. order i j d r o;
       found = every (λ k v. Earlier v.from v.letter h (l + 1)) (λ k d r. earlier_next _ _ _ _ (inv.found k d r)) (omega arith, λ _. omega arith);
       expanded = λ j i r p. expand j i r (earlier_last j i h l p);
-      marked = λ k r. mark k r (cases_lt k n);
     }
       where
         mark : (k : ℕ) → k < n + 1 → (k < n) ⊎ (n ≤ k) → get_or (set marks (g.number q) n) (g.number (visit g ys k).position) 0 ≡ k
         mark k r (inl d) =
-            let ne : g.number (visit g xs k).position ≢ g.number q = λ s. fresh k d (sound.number_same _ _ (inv.inside k d) q_is s) in
-            ap (λ (v : Visit P). get_or (set marks (g.number q) n) (g.number v.position) 0) (old k d) ∙ get_or-set_other marks (g.number q) (g.number (visit g xs k).position) n 0 ne ∙ inv.marked k d
+            let ne : g.number (visit g xs k).position ≢ g.number q = λ s. fresh k d (sound.number_same _ _ (inv.entered.inside k d) q_is s) in
+            ap (λ (v : Visit P). get_or (set marks (g.number q) n) (g.number v.position) 0) (old k d) ∙ get_or-set_other marks (g.number q) (g.number (visit g xs k).position) n 0 ne ∙ inv.entered.marked k d
         mark k r (inr d) =
             let same : n ≡ k = omega arith in
             subst (λ (x : ℕ). get_or (set marks (g.number q) n) (g.number (visit g ys x).position) 0 ≡ x) same (ap (λ (v : Visit P). get_or (set marks (g.number q) n) (g.number v.position) 0) at_new ∙ get_or-set_same marks (g.number q) n 0 slot)
 
         isn : (k : ℕ) → k < n + 1 → (0 < k) ⊎ (k ≤ 0) → Inside (visit g ys k).position
-        isn k r (inl d) = every (λ k v. Inside v.position) (λ k d r. inv.inside k r) q_is k d r
-        isn k r (inr d) = let z : 0 ≡ k = omega arith in subst (λ (x : ℕ). Inside (visit g ys x).position) z (subst (λ (v : Visit P). Inside v.position) (sym (old 0 inv.some)) (inv.inside 0 inv.some))
+        isn k r (inl d) = every (λ k v. Inside v.position) (λ k d r. inv.entered.inside k r) q_is k d r
+        isn k r (inr d) = let z : 0 ≡ k = omega arith in subst (λ (x : ℕ). Inside (visit g ys x).position) z (subst (λ (v : Visit P). Inside v.position) (sym (old 0 inv.some)) (inv.entered.inside 0 inv.some))
 
         order : (i j : ℕ) → 0 < i → i < j → j < n + 1 → Earlier (visit g ys i).from (visit g ys i).letter (visit g ys j).from (visit g ys j).letter
         order i j d r o = every (λ j v. i < j → Earlier (visit g ys i).from (visit g ys i).letter v.from v.letter) (λ j _ s t. subst (λ (v : Visit P). Earlier v.from v.letter (visit g xs j).from (visit g xs j).letter) (sym (old i (omega arith))) (inv.ordered i j d t s)) (λ t. subst (λ (v : Visit P). Earlier v.from v.letter h l) (sym (old i t)) (inv.found i d t)) j (omega arith) o r
@@ -132,28 +129,9 @@ module _ {P : Type 0} {g : Graph P} {Inside : P → Type 0} {xs : List (Visit P)
             let eq : g.step (visit g ys j).position i ≡ Some (visit g ys n).position = ap (λ (x : ℕ). g.step (visit g ys x).position i) s ∙ ap (λ (x : ℕ). g.step (visit g ys h).position x) t ∙ ap (λ (v : Visit P). g.step v.position l) (old h b) ∙ e ∙ ap (λ (v : Visit P). Some v.position) (sym at_new) in
             (n, omega arith, eq, λ d. subst (λ (v : Visit P). Earlier v.from v.letter j (i + 1)) (sym at_new) (omega arith, λ _. omega arith))
 
--- the start alone
-module _ {P : Type 0} {g : Graph P} {Inside : P → Type 0} (sound : Sound g Inside) (xs : List (Visit P)) (marks : List ℕ) (room : 0 < length xs) (slot : g.number g.start < length marks) where
-  only : visit g (set xs 0 (root g)) 0 ≡ root g
-  only = get_or-set_same xs 0 (root g) (root g) room
-
-  pub begun : Searched g Inside (set xs 0 (root g)) (set marks (g.number g.start) 0) 1 0 0
-  begun = record {
-    some = omega arith;
-    first = ap (λ (v : Visit P). v.position) only;
-    inside = λ k b. let e : 0 ≡ k = omega arith in subst (λ (x : ℕ). Inside (visit g (set xs 0 (root g)) x).position) e (subst (λ (v : Visit P). Inside v.position) (sym only) sound.start_inside);
-    back = λ k c b. absurd (omega arith);
-    lettered = λ k c b. absurd (omega arith);
-    linked = λ k c b. absurd (omega arith);
-    ordered = λ i j c r b. absurd (omega arith);
-    found = λ k c b. absurd (omega arith);
-    expanded = λ j i c p. absurd (let a = p.0 in let e : j ≡ 0 = omega arith in let z = p.1 e in omega arith);
-    marked = λ k b. let e : 0 ≡ k = omega arith in subst (λ (x : ℕ). get_or (set marks (g.number g.start) 0) (g.number (visit g (set xs 0 (root g)) x).position) 0 ≡ x) e (ap (λ (v : Visit P). get_or (set marks (g.number g.start) 0) (g.number v.position) 0) only ∙ get_or-set_same marks (g.number g.start) 0 0 slot);
-  }
-
 -- there are no more visits than numbers
 pub few_visits : {P : Type 0} {g : Graph P} {Inside : P → Type 0} {xs : List (Visit P)} {marks : List ℕ} {n h l : ℕ} → Searched g Inside xs marks n h l → Sound g Inside → n ≤ g.count
-few_visits {g = g} {xs = xs} {marks = marks} {n = n} inv sound = pigeonhole g.count n (λ k. g.number (visit g xs k).position) (λ k b. sound.number_below _ (inv.inside k b)) (λ i j a b e. sym (inv.marked i a) ∙ ap (λ (x : ℕ). get_or marks x 0) e ∙ inv.marked j b)
+few_visits {g = g} {xs = xs} {marks = marks} {n = n} inv sound = pigeonhole g.count n (λ k. g.number (visit g xs k).position) (λ k b. sound.number_below _ (inv.entered.inside k b)) (λ i j a b e. sym (inv.entered.marked i a) ∙ ap (λ (x : ℕ). get_or marks x 0) e ∙ inv.entered.marked j b)
 
 -- there is room for a new position
 module _ {P : Type 0} {g : Graph P} {Inside : P → Type 0} {xs : List (Visit P)} {marks : List ℕ} {n h l : ℕ} (inv : Searched g Inside xs marks n h l) (sound : Sound g Inside) (q : P) (q_is : Inside q) (fresh : (k : ℕ) → k < n → (visit g xs k).position ≡ q → ⊥) where
@@ -172,26 +150,13 @@ module _ {P : Type 0} {g : Graph P} {Inside : P → Type 0} {xs : List (Visit P)
   room_for = let r = pigeonhole g.count (suc n) numbers (λ k b. low k b (cases_lt k n)) (λ i j a b e. same i j a b (cases_lt i n) (cases_lt j n) e) in omega arith
     where
       low : (k : ℕ) → k < suc n → (k < n) ⊎ (n ≤ k) → numbers k < g.count
-      low k b (inl c) = let s = sound.number_below _ (inv.inside k c) in let e = numbers_old k c in omega arith
+      low k b (inl c) = let s = sound.number_below _ (inv.entered.inside k c) in let e = numbers_old k c in omega arith
       low k b (inr c) = let s = sound.number_below _ q_is in let e = numbers_new k c in omega arith
 
       same : (i j : ℕ) → i < suc n → j < suc n → (i < n) ⊎ (n ≤ i) → (j < n) ⊎ (n ≤ j) → numbers i ≡ numbers j → i ≡ j
       same i j a b (inl c) (inl d) e =
-          let w = sound.number_same _ _ (inv.inside i c) (inv.inside j d) (sym (numbers_old i c) ∙ e ∙ numbers_old j d) in
-          sym (inv.marked i c) ∙ ap (λ (p : P). get_or marks (g.number p) 0) w ∙ inv.marked j d
-      same i j a b (inl c) (inr d) e = absurd (fresh i c (sound.number_same _ _ (inv.inside i c) q_is (sym (numbers_old i c) ∙ e ∙ numbers_new j d)))
-      same i j a b (inr c) (inl d) e = absurd (fresh j d (sound.number_same _ _ (inv.inside j d) q_is (sym (numbers_old j d) ∙ sym e ∙ numbers_new i c)))
+          let w = sound.number_same _ _ (inv.entered.inside i c) (inv.entered.inside j d) (sym (numbers_old i c) ∙ e ∙ numbers_old j d) in
+          sym (inv.entered.marked i c) ∙ ap (λ (p : P). get_or marks (g.number p) 0) w ∙ inv.entered.marked j d
+      same i j a b (inl c) (inr d) e = absurd (fresh i c (sound.number_same _ _ (inv.entered.inside i c) q_is (sym (numbers_old i c) ∙ e ∙ numbers_new j d)))
+      same i j a b (inr c) (inl d) e = absurd (fresh j d (sound.number_same _ _ (inv.entered.inside j d) q_is (sym (numbers_old j d) ∙ sym e ∙ numbers_new i c)))
       same i j a b (inr c) (inr d) e = omega arith
-
--- what a read visit says of the visit in the list
-pub read_step : {P : Type 0} (g : Graph P) (xs : List (Visit P)) (h l : ℕ) (v : Visit P) (o : Option P) → v ≡ visit g xs h → o ≡ g.step v.position l → g.step (visit g xs h).position l ≡ o
-read_step {P} g xs h l v o e s = ap (λ (w : Visit P). g.step w.position l) (sym e) ∙ sym s
-
--- the same lists and numbers by other names
-pub searched_same : {P : Type 0} {g : Graph P} {Inside : P → Type 0} {xs ys : List (Visit P)} {ms os : List ℕ} {n m h i l k : ℕ} → ys ≡ xs → os ≡ ms → m ≡ n → i ≡ h → k ≡ l → Searched g Inside xs ms n h l → Searched g Inside ys os m i k
-searched_same {P} {g} {Inside} {xs} {ys} {ms} {os} {n} {m} {h} {i} {l} {k} a b c d e s =
-    subst (λ (x : List (Visit P)). Searched g Inside x os m i k) (sym a)
-    (subst (λ (x : List ℕ). Searched g Inside xs x m i k) (sym b)
-    (subst (λ (x : ℕ). Searched g Inside xs ms x i k) (sym c)
-    (subst (λ (x : ℕ). Searched g Inside xs ms n x k) (sym d)
-    (subst (λ (x : ℕ). Searched g Inside xs ms n h x) (sym e) s))))

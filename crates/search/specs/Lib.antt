@@ -1,3 +1,5 @@
 pub mod Graphs
 pub mod Visits
+pub mod Searches
+pub mod Errors
 pub mod Answers

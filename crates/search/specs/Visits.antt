@@ -1,5 +1,5 @@
 -- A list of visits, each with a link back to the one that it was found from.
-use Rattle.std.specs.Prelude.{◌≡◌, ℕ, zero, suc, ◌+◌, ◌<◌, ◌≤◌, Bool, true, false, cond, List, [], ◌∷◌, ◌++◌, length, Some, None, Option, ◌≢◌, nat_lt, slice_index, slice_index_or}
+use Rattle.std.specs.Prelude.{◌≡◌, ℕ, zero, suc, ◌+◌, ◌<◌, ◌≤◌, Bool, true, false, List, [], ◌∷◌, ◌++◌, length, Some, None, ◌≢◌, slice_index, slice_index_or}
 use Rattle.machine.specs.Sequences.{Letters, Before}
 use Rattle.search.specs.Graphs.{Graph, run, LeastGoal, LeastPath}
 use Rattle.search.specs.declared.visit.Visit.{Visit}
@@ -29,7 +29,8 @@ letter_at (v ∷ xs) (suc k) = letter_at xs k
 -- the letters along the back links from place k to the start, at most f of them
 abbrev pub path_in : {P : Type 0} → List (Visit P) → ℕ → ℕ → List ℕ
 path_in xs zero k = []
-path_in xs (suc f) k = cond (nat_lt 0 k) (path_in xs f (from_at xs k) ++ letter_at xs k ∷ []) []
+path_in xs (suc f) zero = []
+path_in xs (suc f) (suc k) = path_in xs f (from_at xs (suc k)) ++ letter_at xs (suc k) ∷ []
 
 -- the sequence that leads to the visit at place k
 abbrev pub path : {P : Type 0} → List (Visit P) → ℕ → List ℕ
@@ -47,33 +48,27 @@ Earlier a b c d = (a ≤ c) × (a ≡ c → b < d)
 abbrev pub Led : {P : Type 0} → Graph P → List (Visit P) → ℕ → ℕ → ℕ → Type 0
 Led g xs n j i = (m : ℕ) × (m < n) × (g.step (visit g xs j).position i ≡ Some (visit g xs m).position) × (0 < m → Earlier (visit g xs m).from (visit g xs m).letter j (i + 1))
 
+-- the first n of xs are inside, and the mark of each leads to it
+pub record Marked {P : Type 0} (g : Graph P) (Inside : P → Type 0) (xs : List (Visit P)) (marks : List ℕ) (n : ℕ) : Type 0 where
+  pub inside : (k : ℕ) → k < n → Inside (visit g xs k).position
+  pub marked : (k : ℕ) → k < n → slice_index marks (g.number (visit g xs k).position) ≡ k
+
 -- the first n of xs are the visits found by the pairs (visit, letter) that stand before (h, l), and none of these met the goal
 pub record Searched {P : Type 0} (g : Graph P) (Inside : P → Type 0) (xs : List (Visit P)) (marks : List ℕ) (n h l : ℕ) : Type 0 where
   pub some : 0 < n
   pub first : (visit g xs 0).position ≡ g.start
-  pub inside : (k : ℕ) → k < n → Inside (visit g xs k).position
+  pub entered : Marked g Inside xs marks n
   pub back : (k : ℕ) → 0 < k → k < n → (visit g xs k).from < k
   pub lettered : (k : ℕ) → 0 < k → k < n → (visit g xs k).letter < g.letters
   pub linked : (k : ℕ) → 0 < k → k < n → g.step (visit g xs (visit g xs k).from).position (visit g xs k).letter ≡ Some (visit g xs k).position
   pub ordered : (i j : ℕ) → 0 < i → i < j → j < n → Earlier (visit g xs i).from (visit g xs i).letter (visit g xs j).from (visit g xs j).letter
   pub found : (k : ℕ) → 0 < k → k < n → Earlier (visit g xs k).from (visit g xs k).letter h l
   pub expanded : (j i : ℕ) → i < g.letters → Earlier j i h l → Led g xs n j i
-  pub marked : (k : ℕ) → k < n → slice_index marks (g.number (visit g xs k).position) ≡ k
 
 -- whether the position is among the first n visits
 abbrev pub Among : {P : Type 0} → Graph P → List (Visit P) → ℕ → P → Bool → Type 0
 Among g xs n p true = (m : ℕ) × (m < n) × ((visit g xs m).position ≡ p)
 Among g xs n p false = (k : ℕ) → k < n → (visit g xs k).position ≢ p
-
--- the pair (h, l) meets the goal, or it is done
-abbrev pub Tried : {P : Type 0} → Graph P → (P → Type 0) → List (Visit P) → List ℕ → ℕ → ℕ → ℕ → Bool → Type 0
-Tried g Inside xs marks n h l true = Searched g Inside xs marks n h l × (g.step (visit g xs h).position l ≡ None)
-Tried g Inside xs marks n h l false = Searched g Inside xs marks n h (l + 1)
-
--- a letter of the visit h meets the goal, or all its letters are done
-abbrev pub Expanded : {P : Type 0} → Graph P → (P → Type 0) → List (Visit P) → List ℕ → ℕ → ℕ → Option ℕ → Type 0
-Expanded g Inside xs marks n h (Some l) = Searched g Inside xs marks n h l × (l < g.letters) × (h < n) × (g.step (visit g xs h).position l ≡ None)
-Expanded g Inside xs marks n h None = Searched g Inside xs marks n (h + 1) 0
 
 -- the letter at the visit ends the least sequence that meets the goal
 pub record GoalAt {P : Type 0} (g : Graph P) (xs : List (Visit P)) (at letter : ℕ) : Type 0 where

@@ -1,126 +1,104 @@
-ghost use Rattle.std.specs.Prelude.{◌≡◌, ℕ, ◌+◌, ◌^◌, ◌<◌, ◌≤◌, length, slice_index, slice_set};
-ghost use Rattle.search.specs.Visits.{visit, Among, Searched, Tried, Expanded, Explored, MetEarly};
+ghost use Rattle.std.specs.Prelude.{◌≡◌, ℕ, ◌+◌, ◌^◌, ◌<◌, ◌≤◌, length, slice_set};
+ghost use Rattle.search.specs.Visits.{Explored, MetEarly};
 
 use super::visit::Visit;
 use super::walk::Walk;
 use super::worklist::Worklist;
 
 // How a search ends: the letter meets the goal at the visit, or none can and the first `count` visits are all there are.
+// Not a `Found` with a parameter for what a goal carries: its callers would read `Found<usize>`, and `length` would lose its name.
 #[derive(Clone, Copy)]
 pub(crate) enum Outcome {
     Goal { at: usize, letter: u8 },
     Exhausted { count: usize },
 }
 
-// Whether the position is in the list: its mark leads to a visit of the same number. Marks that were never set lead elsewhere.
-fn entered<W: Walk>(
-    walk: &W,
-    list: &Worklist<Visit<W::Position>>,
-    marks: &[u32],
-    position: W::Position,
-) -> bool
-    requires is { W.Inside walk.now position }
-    requires slots { (W.graph walk.now).count ≤ length marks.now }
-    requires all { (k : ℕ) → k < list.now.tail → W.Inside walk.now (visit (W.graph walk.now) list.now.visits.now k).position }
-    requires marked { (k : ℕ) → k < list.now.tail → slice_index marks.now ((W.graph walk.now).number (visit (W.graph walk.now) list.now.visits.now k).position) ≡ k }
-    ensures { Among (W.graph walk.now) list.now.visits.now list.now.tail position result }
-{
-    let number = walk.number(position);
-    let index = marks[number] as usize;
-    if index < list.len() {
-        let visit = list.at(index);
-        walk.number(visit.position) == number
-    } else {
-        false
+// A walk under search, and for each number a mark that leads to its visit in the list. The list stands beside it:
+// of a slice lent to a struct within a struct nothing is known after the loan.
+#[derive(Drop)]
+struct Search<'a, W: Walk> {
+    walk: &'a W,
+    marks: &'a mut [u32],
+    ghost slots: { (W.graph walk.now).count ≤ length marks.now },
+}
+
+impl<'a, W: Walk> Search<'a, W> {
+    ghost use Rattle.search.specs.Searches.{Continues, Expanded, HasTried, IsMarked, Knows, Tried};
+
+    // Whether the position is in the list: its mark leads to a visit of the same number. Marks that were never set lead elsewhere.
+    fn is_visited(&self, list: &Worklist<Visit<W::Position>>, position: W::Position) -> bool
+        requires inside { W.Inside self.now.walk.now position }
+        requires marked { IsMarked self.now list.now }
+        ensures { Knows self.now list.now position result }
+    {
+        let number = self.walk.number(position);
+        let index = self.marks[number] as usize;
+        index < list.len() && self.walk.number(list.get(index).position) == number
     }
-}
 
-// Appends a visit and marks its position.
-fn enter<W: Walk>(
-    walk: &W,
-    list: &mut Worklist<Visit<W::Position>>,
-    marks: &mut [u32],
-    visit: Visit<W::Position>,
-)
-    requires is { W.Inside walk.now visit.position }
-    requires slots { (W.graph walk.now).count ≤ length marks.old }
-    requires room { list.old.tail < length list.old.visits.now }
-    requires few { list.old.tail < 2 ^ 32 }
-    ensures items { list.new.visits.now ≡ slice_set list.old.visits.now list.old.tail visit }
-    ensures marks { marks.new ≡ slice_set marks.old ((W.graph walk.now).number visit.position) list.old.tail }
-    ensures tail { list.new.tail ≡ list.old.tail + 1 }
-    ensures head { list.new.head ≡ list.old.head }
-    ensures lent { list.new.visits.ghost_name ≡ list.old.visits.ghost_name }
-{
-    let number = walk.number(visit.position);
-    let index = list.len();
-    marks[number] = index as u32;
-    list.push(visit);
-}
+    // Appends a visit and marks its position.
+    fn enter(&mut self, list: &mut Worklist<Visit<W::Position>>, visit: Visit<W::Position>)
+        requires inside { W.Inside self.old.walk.now visit.position }
+        requires room { list.old.tail < length list.old.items.now }
+        requires few { list.old.tail < 2 ^ 32 }
+        ensures items { list.new.items.now ≡ slice_set list.old.items.now list.old.tail visit }
+        ensures marks { self.new.marks.now ≡ slice_set self.old.marks.now ((W.graph self.old.walk.now).number visit.position) list.old.tail }
+        ensures tail { list.new.tail ≡ list.old.tail + 1 }
+        ensures walk { self.new.walk ≡ self.old.walk }
+        ensures continues { Continues list.old list.new }
+    {
+        let number = self.walk.number(visit.position);
+        let index = list.len();
+        self.marks[number] = index as u32;
+        list.push(visit);
+    }
 
-// Tries one letter at a visit: true where it meets the goal. A new position is entered as soon as it is found.
-fn try_letter<W: Walk>(
-    walk: &W,
-    list: &mut Worklist<Visit<W::Position>>,
-    marks: &mut [u32],
-    at: usize,
-    letter: u8,
-) -> bool
-    requires state { Searched (W.graph walk.now) (W.Inside walk.now) list.old.visits.now marks.old list.old.tail at letter }
-    requires inside { at < list.old.tail }
-    requires lettered { letter < (W.graph walk.now).letters }
-    requires room { (W.graph walk.now).count ≤ length list.old.visits.now }
-    requires slots { (W.graph walk.now).count ≤ length marks.old }
-    ensures tried { Tried (W.graph walk.now) (W.Inside walk.now) list.new.visits.now marks.new list.new.tail at letter result }
-    ensures grows { list.old.tail ≤ list.new.tail }
-    ensures size { length list.new.visits.now ≡ length list.old.visits.now }
-    ensures head { list.new.head ≡ list.old.head }
-    ensures lent { list.new.visits.ghost_name ≡ list.old.visits.ghost_name }
-{
-    let here = list.at(at);
-    match walk.step(here.position, letter) {
-        None => true,
-        Some(position) => {
-            if !entered(walk, list, marks, position) {
-                enter(
-                    walk,
-                    list,
-                    marks,
-                    Visit {
-                        position,
-                        from: at as u32,
-                        letter,
-                    },
-                );
+    // Tries one letter at a visit: true where it meets the goal. A new position is entered as soon as it is found.
+    fn try_letter(&mut self, list: &mut Worklist<Visit<W::Position>>, at: usize, letter: u8) -> bool
+        requires room { (W.graph self.old.walk.now).count ≤ length list.old.items.now }
+        requires tried { HasTried self.old list.old at letter }
+        requires inside { at < list.old.tail }
+        requires lettered { letter < (W.graph self.old.walk.now).letters }
+        ensures tried { Tried self.new list.new at letter result }
+        ensures walk { self.new.walk ≡ self.old.walk }
+        ensures continues { Continues list.old list.new }
+    {
+        let here = list.get(at);
+        match self.walk.step(here.position, letter) {
+            None => true,
+            Some(position) => {
+                if !self.is_visited(list, position) {
+                    self.enter(
+                        list,
+                        Visit {
+                            position,
+                            from: at as u32,
+                            letter,
+                        },
+                    );
+                }
+                false
             }
-            false
         }
     }
-}
 
-// Tries the letters at a visit in rising order: the first that meets the goal.
-fn expand<W: Walk>(
-    walk: &W,
-    list: &mut Worklist<Visit<W::Position>>,
-    marks: &mut [u32],
-    at: usize,
-) -> Option<u8>
-    requires state { Searched (W.graph walk.now) (W.Inside walk.now) list.old.visits.now marks.old list.old.tail at 0 }
-    requires inside { at < list.old.tail }
-    requires room { (W.graph walk.now).count ≤ length list.old.visits.now }
-    requires slots { (W.graph walk.now).count ≤ length marks.old }
-    ensures expanded { Expanded (W.graph walk.now) (W.Inside walk.now) list.new.visits.now marks.new list.new.tail at result }
-    ensures grows { list.old.tail ≤ list.new.tail }
-    ensures size { length list.new.visits.now ≡ length list.old.visits.now }
-    ensures head { list.new.head ≡ list.old.head }
-    ensures lent { list.new.visits.ghost_name ≡ list.old.visits.ghost_name }
-{
-    for letter in 0..walk.letters() {
-        if try_letter(walk, list, marks, at, letter) {
-            return Some(letter);
+    // Tries the letters at a visit in rising order: the first that meets the goal.
+    fn expand(&mut self, list: &mut Worklist<Visit<W::Position>>, at: usize) -> Option<u8>
+        requires room { (W.graph self.old.walk.now).count ≤ length list.old.items.now }
+        requires tried { HasTried self.old list.old at 0 }
+        requires inside { at < list.old.tail }
+        ensures expanded { Expanded self.new list.new at result }
+        ensures walk { self.new.walk ≡ self.old.walk }
+        ensures continues { Continues list.old list.new }
+    {
+        // A loop, since nothing is known of a list that the closure of a `find` changes.
+        for letter in 0..self.walk.letters() {
+            if self.try_letter(list, at, letter) {
+                return Some(letter);
+            }
         }
+        None
     }
-    None
 }
 
 // The breadth-first search from the walk's start.
@@ -135,15 +113,14 @@ pub(crate) fn explore<W: Walk>(
     ensures early { MetEarly (W.graph walk.now) result }
 {
     let position = walk.start();
+    let mut search = Search { walk, marks };
     let mut list = Worklist {
-        visits,
+        items: visits,
         head: 0,
         tail: 0,
     };
-    enter(
-        walk,
+    search.enter(
         &mut list,
-        marks,
         Visit {
             position,
             from: 0,
@@ -151,7 +128,7 @@ pub(crate) fn explore<W: Walk>(
         },
     );
     while let Some(at) = list.next() {
-        if let Some(letter) = expand(walk, &mut list, marks, at) {
+        if let Some(letter) = search.expand(&mut list, at) {
             return Outcome::Goal { at, letter };
         }
     }

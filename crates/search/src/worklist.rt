@@ -1,32 +1,37 @@
-ghost use Rattle.std.specs.Prelude.{◌≡◌, ℕ, ◌+◌, ◌<◌, ◌≤◌, length, Some, None, slice_index_or, slice_set};
+ghost use Rattle.std.specs.Prelude.{◌≡◌, ℕ, ◌+◌, ◌<◌, ◌≤◌, length, IfSome, IfNone, OnSome, slice_index_or, slice_set};
 
 // First in, first out, over a lent slice. What was taken out stays readable in its place.
 #[derive(Drop)]
 pub(crate) struct Worklist<'a, V> {
-    pub(crate) visits: &'a mut [V],
+    pub(crate) items: &'a mut [V],
     pub(crate) head: usize,
     pub(crate) tail: usize,
-    ghost ok: { (head ≤ tail) × (tail ≤ length visits.now) },
+    ghost ordered: { head ≤ tail },
+    ghost within: { tail ≤ length items.now },
 }
 
 impl<'a, V: Copy> Worklist<'a, V> {
-    pub(crate) fn push(&mut self, visit: V)
-        requires { self.old.tail < length self.old.visits.now }
-        ensures items { self.new.visits.now ≡ slice_set self.old.visits.now self.old.tail visit }
+    pub(crate) fn push(&mut self, item: V)
+        requires { self.old.tail < length self.old.items.now }
+        ensures items { self.new.items.now ≡ slice_set self.old.items.now self.old.tail item }
         ensures tail { self.new.tail ≡ self.old.tail + 1 }
         ensures head { self.new.head ≡ self.old.head }
-        ensures lent { self.new.visits.ghost_name ≡ self.old.visits.ghost_name }
+        ensures lent { self.new.items.ghost_name ≡ self.old.items.ghost_name }
     {
-        self.visits[self.tail] = visit;
+        self.items[self.tail] = item;
         self.tail += 1;
     }
 
-    // The index of the next visit, where one is left.
+    // The index of the next item, where one is left.
     pub(crate) fn next(&mut self) -> Option<usize>
-        ensures items { self.new.visits.now ≡ self.old.visits.now }
+        ensures items { self.new.items.now ≡ self.old.items.now }
         ensures tail { self.new.tail ≡ self.old.tail }
-        ensures lent { self.new.visits.ghost_name ≡ self.old.visits.ghost_name }
-        ensures which { elim result [ Some i ↦ (i ≡ self.old.head) × (self.new.head ≡ i + 1) × (i < self.old.tail) | None ↦ (self.old.head ≡ self.old.tail) × (self.new.head ≡ self.old.head) ] }
+        ensures lent { self.new.items.ghost_name ≡ self.old.items.ghost_name }
+        ensures next { IfSome result (λ index. index ≡ self.old.head) }
+        ensures left { OnSome result (self.old.head < self.old.tail) }
+        ensures taken { OnSome result (self.new.head ≡ self.old.head + 1) }
+        ensures none { IfNone result (self.old.head ≡ self.old.tail) }
+        ensures still { IfNone result (self.new.head ≡ self.old.head) }
     {
         if self.head < self.tail {
             let index = self.head;
@@ -37,12 +42,12 @@ impl<'a, V: Copy> Worklist<'a, V> {
         }
     }
 
-    pub(crate) fn at(&self, index: usize) -> V
+    pub(crate) fn get(&self, index: usize) -> V
         requires { index < self.now.tail }
-        ensures { (d : V) → result ≡ slice_index_or self.now.visits.now index d }
+        ensures { (d : V) → result ≡ slice_index_or self.now.items.now index d }
     {
-        let visits: &[V] = &*self.visits;
-        visits[index]
+        let items: &[V] = &*self.items;
+        items[index]
     }
 
     pub(crate) fn len(&self) -> usize

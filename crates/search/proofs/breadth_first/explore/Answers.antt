@@ -1,33 +1,29 @@
-use Rattle.std.proofs.Common.{set, sym, refl, ap, ◌∙◌, subst, arith, rules}
-use Rattle.search.proofs.Steps.{begun, few_visits, searched_same}
+use Rattle.std.proofs.Common.{◌≡◌, ap, ◌∙◌, arith, rules}
+use Rattle.search.proofs.Steps.{few_visits}
 use Rattle.search.proofs.Runs.{goal_at, exhaustive}
+use Rattle.search.proofs.breadth_first.explore.Given.{Over}
 use Rattle.search.proofs.breadth_first.explore.Goals as goal
+use Rattle.search.proofs.breadth_first.explore.Goals.{In-Some-expand}
 
-pub enter-requires : goal.enter-requires
-enter-requires g c =
-    let sound = g.W.Walk.sound c.args.walk.now in
-    let less = sound.number_below _ sound.start_inside in
-    record { is = subst (g.W.Walk.Inside c.args.walk.now) (sym c.start-position.ensures) sound.start_inside; slots = c.requires.slots; room = omega arith; few = omega arith }
+same_walk : (g : Over) (c : In-Some-expand g) → c.expand.new.self.walk.now ≡ c.args.walk.now
+same_walk g c = ap (λ r. r.now) c.in-Some-expand.ensures.walk ∙ c.loop-at.invariant.walk
 
-pub loop-at-init : goal.loop-at-init
-loop-at-init g c =
-    let w = g.W.Walk.graph c.args.walk.now in
-    let sound = g.W.Walk.sound c.args.walk.now in
-    let less = sound.number_below _ sound.start_inside in
-    let e = c.enter.ensures in
-    let P = g.row.W-Position.Denot in
-    let s = c.start-position.ensures in
-    let first = begun sound c.args.visits.now c.args.marks.now (omega arith) (omega arith) in
-    (searched_same (e.items ∙ ap (λ (p : P). set c.args.visits.now 0 (record { position = p; from = 0; letter = 0 })) s) (e.marks ∙ ap (λ (p : P). set c.args.marks.now (w.number p) 0) s) e.tail e.head refl first, refl, refl)
-
-pub returns-in-Some-expand : goal.returns-in-Some-expand
-returns-in-Some-expand g c =
+pub returns-in-Some-expand-clause-explored : goal.returns-in-Some-expand-clause-explored
+returns-in-Some-expand-clause-explored g c =
     let e = c.in-Some-expand.ensures.expanded in
-    let all = few_visits e.0 (g.W.Walk.sound c.args.walk.now) in
-    record { explored = goal_at _ (search rules) c.expand.new.list.ok.1 e.0 e.2 e.1 e.3; early = omega arith }
+    goal_at _ (ap g.W.Walk.graph (same_walk g c)) (search rules) c.expand.new.list.within e.0 e.2 e.1 e.3
 
-pub returns : goal.returns
-returns g c =
-    let e = c.in_default.ensures in
-    let h = e.which.0 in
-    record { explored = exhaustive _ (search rules) c.loop-at.list.ok.1 c.loop-at.invariant.0 (c.len.ensures ∙ e.tail) (omega arith); early = tt }
+pub returns-in-Some-expand-clause-early : goal.returns-in-Some-expand-clause-early
+returns-in-Some-expand-clause-early g c =
+    let e = c.in-Some-expand.ensures.expanded in
+    let few = few_visits e.0 (g.W.Walk.sound c.expand.new.self.walk.now) in
+    omega (arith, ap (λ w. (g.W.Walk.graph w).count) (same_walk g c))
+
+pub loop-at-smaller : goal.loop-at-smaller
+loop-at-smaller g c =
+    let few = few_visits c.loop-at.invariant.tried (g.W.Walk.sound c.loop-at.search.walk.now) in
+    omega (arith, ap (λ w. (g.W.Walk.graph w).count) c.loop-at.invariant.walk, c.in-Some.ensures.taken, c.in-Some.ensures.left, c.expand.ensures.continues.head)
+
+pub returns-clause-explored : goal.returns-clause-explored
+returns-clause-explored g c =
+    exhaustive _ (ap g.W.Walk.graph c.loop-at.invariant.walk) (search rules) c.loop-at.list.within c.loop-at.invariant.tried (c.len.ensures ∙ c.next.ensures.tail) (omega (arith, c.in_default.ensures.none))
