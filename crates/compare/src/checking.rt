@@ -1,6 +1,7 @@
 ghost use Rattle.std.specs.Prelude.{◌≡◌, None, Ok};
 ghost use Rattle.machine.specs.Outputs.{Equivalent};
-ghost use Rattle.compare.specs.Checks.{TableOf, checked, finding, flaw_at, flaw_at_letters, flaw_at_places, in_table, listed};
+ghost use Rattle.compare.specs.Checks.{checked, finding, flaw_at, flaw_at_letters, flaw_at_places, listed};
+ghost use Rattle.compare.specs.PairSets.{has_pair, IsSetOf};
 
 use super::flaw::Flaw;
 use super::pair_set::PairSet;
@@ -8,59 +9,54 @@ use super::product::Product;
 use machine::{Device, Pair, Refusal};
 use search::Walk;
 
-// What is wrong at one pair and one letter, if anything.
-fn check_letter<D: Device>(
-    product: &Product<D>,
-    set: &PairSet,
-    place: usize,
-    pair: Pair,
-    letter: u8,
-) -> Option<Flaw>
-    requires { set.now.states ≡ (D.meaning product.now.device.now).states }
-    ensures { result ≡ flaw_at (D.meaning product.now.device.now) product.now.first product.now.second (in_table set.now.states set.now.marked) place pair letter }
-{
-    match product.step(pair, letter) {
-        None => Some(Flaw::OutputsDiffer { place, letter }),
-        Some(next) if set.contains(next) => None,
-        Some(_) => Some(Flaw::SuccessorMissing { place, letter }),
+// What a check goes by: the product machine, and the pairs that are listed.
+#[derive(Drop)]
+struct Checker<'a, D: Device> {
+    product: Product<'a, D>,
+    listed: &'a PairSet,
+    ghost same: { listed.now.states ≡ (D.meaning product.device.now).states },
+}
+
+impl<'a, D: Device> Checker<'a, D> {
+    // What is wrong at one pair and one letter, if anything.
+    fn check_letter(&self, place: usize, pair: Pair, letter: u8) -> Option<Flaw>
+        ensures { result ≡ flaw_at (D.meaning self.now.product.device.now) self.now.product.first self.now.product.second (has_pair self.now.listed.now) place pair letter }
+    {
+        match self.product.step(pair, letter) {
+            None => Some(Flaw::OutputsDiffer { place, letter }),
+            Some(next) if self.listed.contains(next) => None,
+            Some(_) => Some(Flaw::SuccessorMissing { place, letter }),
+        }
     }
-}
 
-// What is wrong at one pair, at the least letter.
-fn check_pair<D: Device>(
-    product: &Product<D>,
-    set: &PairSet,
-    place: usize,
-    pair: Pair,
-) -> Option<Flaw>
-    requires { set.now.states ≡ (D.meaning product.now.device.now).states }
-    ensures { let m = D.meaning product.now.device.now in result ≡ flaw_at_letters m product.now.first product.now.second (in_table set.now.states set.now.marked) place pair 0 m.letters }
-{
-    (0..product.letters()).find_map(|letter| check_letter(product, set, place, pair, letter))
-}
+    // What is wrong at one pair, at the least letter.
+    fn check_pair(&self, place: usize, pair: Pair) -> Option<Flaw>
+        ensures { let m = D.meaning self.now.product.device.now in result ≡ flaw_at_letters m self.now.product.first self.now.product.second (has_pair self.now.listed.now) place pair 0 m.letters }
+    {
+        (0..self.product.letters()).find_map(|letter| self.check_letter(place, pair, letter))
+    }
 
-// What is wrong at the least place.
-fn check_pairs<D: Device>(product: &Product<D>, set: &PairSet, pairs: &[Pair]) -> Option<Flaw>
-    requires same { set.now.states ≡ (D.meaning product.now.device.now).states }
-    requires all { TableOf set.now.states pairs.now set.now.marked }
-    ensures { result ≡ flaw_at_places (D.meaning product.now.device.now) product.now.first product.now.second (listed pairs.now) 0 pairs.now }
-{
-    pairs
-        .iter()
-        .enumerate()
-        .find_map(|(place, pair)| check_pair(product, set, place, *pair))
-}
+    // What is wrong at the least place of the list whose pairs these are.
+    fn check_pairs(&self, pairs: &[Pair]) -> Option<Flaw>
+        requires { IsSetOf pairs.now self.now.listed.now }
+        ensures { result ≡ flaw_at_places (D.meaning self.now.product.device.now) self.now.product.first self.now.product.second (listed pairs.now) 0 pairs.now }
+    {
+        pairs
+            .iter()
+            .enumerate()
+            .find_map(|(place, pair)| self.check_pair(place, *pair))
+    }
 
-// What is wrong with a list whose pairs are the set.
-fn find<D: Device>(product: &Product<D>, set: &PairSet, pairs: &[Pair]) -> Option<Flaw>
-    requires same { set.now.states ≡ (D.meaning product.now.device.now).states }
-    requires all { TableOf set.now.states pairs.now set.now.marked }
-    ensures { result ≡ finding (D.meaning product.now.device.now) product.now.first product.now.second pairs.now }
-{
-    if set.contains(product.start()) {
-        check_pairs(product, set, pairs)
-    } else {
-        Some(Flaw::NoResetPair)
+    // What is wrong with the list whose pairs these are.
+    fn check_list(&self, pairs: &[Pair]) -> Option<Flaw>
+        requires { IsSetOf pairs.now self.now.listed.now }
+        ensures { result ≡ finding (D.meaning self.now.product.device.now) self.now.product.first self.now.product.second pairs.now }
+    {
+        if self.listed.contains(self.product.start()) {
+            self.check_pairs(pairs)
+        } else {
+            Some(Flaw::NoResetPair)
+        }
     }
 }
 
@@ -75,7 +71,11 @@ pub fn check<D: Device>(
     ensures proof { result ≡ Ok None → Equivalent (D.meaning device.now) first second }
 {
     let product = Product::new(device, first, second)?;
-    let mut set = PairSet::new(device.states());
-    set.insert_all(pairs)?;
-    Ok(find(&product, &set, pairs))
+    let mut listed = PairSet::new(device.states());
+    listed.insert_all(pairs)?;
+    let checker = Checker {
+        product,
+        listed: &listed,
+    };
+    Ok(checker.check_list(pairs))
 }

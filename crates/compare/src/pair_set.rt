@@ -1,5 +1,4 @@
-ghost use Rattle.std.specs.Prelude.{◌≡◌, ◌*◌, ◌≤◌, ◌++◌, true, List, [], ◌∷◌, length, Ok, Err, if◌then◌else◌, OnOk};
-ghost use Rattle.compare.specs.Checks.{TableOf, in_table, pair_inside, pairs_inside};
+ghost use Rattle.std.specs.Prelude.{◌*◌, ◌≤◌, length};
 
 use super::product::pair_number;
 use machine::{Pair, Refusal};
@@ -16,11 +15,15 @@ pub(crate) struct PairSet {
 }
 
 impl PairSet {
+    ghost use Rattle.std.specs.Prelude.{◌≡◌, ◌≤◌, ◌++◌, true, List, [], ◌∷◌, Ok, Err, if◌then◌else◌, OnOk};
+    ghost use Rattle.compare.specs.Checks.{pair_inside, pairs_inside};
+    ghost use Rattle.compare.specs.PairSets.{has_pair, IsSetOf};
+
     // The empty set.
     pub(crate) fn new(states: u16) -> PairSet
         requires { states ≤ 256 }
         ensures states { result.states ≡ states }
-        ensures empty { TableOf states [] result.marked }
+        ensures empty { IsSetOf [] result }
     {
         PairSet {
             states,
@@ -30,7 +33,7 @@ impl PairSet {
 
     pub(crate) fn contains(&self, pair: Pair) -> bool
         requires { pair_inside self.now.states pair ≡ true }
-        ensures { result ≡ in_table self.now.states self.now.marked pair }
+        ensures { result ≡ has_pair self.now pair }
     {
         self.marked[pair_number(self.states, pair)]
     }
@@ -39,7 +42,7 @@ impl PairSet {
     fn insert(&mut self, pair: Pair) -> Result<(), Refusal>
         ensures inside { result ≡ (if pair_inside self.old.states pair then Ok tt else Err Refusal.OutOfRange) }
         ensures states { self.new.states ≡ self.old.states }
-        ensures more { OnOk result ((ps : List Pair) → TableOf self.old.states ps self.old.marked → TableOf self.new.states (ps ++ pair ∷ []) self.new.marked) }
+        ensures more { OnOk result ((ps : List Pair) → IsSetOf ps self.old → IsSetOf (ps ++ pair ∷ []) self.new) }
     {
         if pair.first >= self.states || pair.second >= self.states {
             return Err(Refusal::OutOfRange);
@@ -50,10 +53,10 @@ impl PairSet {
 
     // Puts the pairs into the empty set, or refuses one that is out of range.
     pub(crate) fn insert_all(&mut self, pairs: &[Pair]) -> Result<(), Refusal>
-        requires empty { TableOf self.old.states [] self.old.marked }
+        requires { IsSetOf [] self.old }
         ensures inside { result ≡ (if pairs_inside self.old.states pairs.now then Ok tt else Err Refusal.OutOfRange) }
         ensures states { self.new.states ≡ self.old.states }
-        ensures all { OnOk result (TableOf self.new.states pairs.now self.new.marked) }
+        ensures all { OnOk result (IsSetOf pairs.now self.new) }
     {
         for pair in pairs {
             self.insert(*pair)?;

@@ -10,4 +10,4 @@ ok_none o e = cc
 
 pub returns-clause-proof : goal.returns-clause-proof
 returns-clause-proof g c = λ e. closed_equivalent (g.D.Device.meaning c.args.device.now) c.args.first c.args.second c.args.pairs.now
-    (ap (λ p. finding (g.D.Device.meaning p.device.now) p.first p.second c.args.pairs.now) (sym c.in_ok-product.ensures.product) ∙ sym c.find.ensures ∙ ok_none c.find.result e)
+    (ap (λ p. finding (g.D.Device.meaning p.device.now) p.first p.second c.args.pairs.now) (sym c.in_ok-product.ensures.product) ∙ sym c.check_list.ensures ∙ ok_none c.check_list.result e)
