@@ -2,6 +2,7 @@
 use Rattle.std.proofs.Common.{◌≡◌, ℕ, ◌*◌, ◌<◌, ◌≤◌, Bool, true, false, ◌&&◌, ◌||◌, eqb, cond, ◌⊎◌, List, [], ◌∷◌, ◌++◌, length, get_or, set, replicate, Some, None, sym, refl, ap, ◌∙◌, subst, inl, inr, arith}
 use Rattle.std.proofs.lemmas.List.{get_or-set_same, get_or-set_other, get_or-replicate, get_or_past, length-replicate}
 use Rattle.std.proofs.lemmas.Bool.{and_parts, and_from, lt-ltb, eqb-true, eq-eqb, ltb-true, cases_lt}
+use Rattle.std.proofs.Math.Bool.{or_assoc, or-false, or-true}
 use Rattle.machine.specs.Machines.{Machine, Sound, step_of}
 use Rattle.machine.specs.Outputs.{differ}
 use Rattle.machine.specs.Products.{pair, reset_pair}
@@ -42,21 +43,9 @@ inside_from n p h k = and_from _ _ (lt-ltb _ _ h) (lt-ltb _ _ k)
 pub number_inside : (n : ℕ) (p : Pair) → pair_inside n p ≡ true → pair_number n p < n * n
 number_inside n p e = let h = inside_parts n p e in pair_number_below n p h.0 h.1
 
-or_assoc : (x y z : Bool) → (x || (y || z)) ≡ ((x || y) || z)
-or_assoc true y z = refl
-or_assoc false y z = refl
-
-or_false : (x : Bool) → (x || false) ≡ x
-or_false true = refl
-or_false false = refl
-
-or_true : (x : Bool) → (x || true) ≡ true
-or_true true = refl
-or_true false = refl
-
 listed_push : (qs : List Pair) (q p : Pair) → listed (qs ++ q ∷ []) p ≡ (listed qs p || same_pair q p)
-listed_push [] q p = or_false (same_pair q p)
-listed_push (r ∷ qs) q p = ap (λ t. same_pair r p || t) (listed_push qs q p) ∙ or_assoc (same_pair r p) (listed qs p) (same_pair q p)
+listed_push [] q p = or-false (same_pair q p)
+listed_push (r ∷ qs) q p = ap (λ t. same_pair r p || t) (listed_push qs q p) ∙ sym (or_assoc (same_pair r p) (listed qs p) (same_pair q p))
 
 -- the pair that a letter leads to is a pair of states, and so is the pair of resets
 pub next_inside : (m : Machine) → Sound m → (a b : ℕ) (p : Pair) (l : ℕ) → pair_inside m.states (next_pair m a b p l) ≡ true
@@ -88,12 +77,12 @@ module _ (n : ℕ) (ps : List Pair) (q : Pair) (table : List Bool) (size : n * n
       go true e =
           ap (λ (x : Pair). get_or (set table (pair_number n q) true) (pair_number n x) false) (sym (same_pair_is q p e))
           ∙ get_or-set_same table (pair_number n q) true false room
-          ∙ sym (listed_push ps q p ∙ ap (λ t. listed ps p || t) e ∙ or_true (listed ps p))
+          ∙ sym (listed_push ps q p ∙ ap (λ t. listed ps p || t) e ∙ or-true (listed ps p))
       go false e =
           let other : pair_number n p ≡ pair_number n q → ⊥ = λ z. off e (sym (pair_number_same n p q (inside_parts n p p_inside).1 (inside_parts n q q_inside).1 z)) in
           get_or-set_other table (pair_number n q) (pair_number n p) true false other
           ∙ held p p_inside
-          ∙ sym (listed_push ps q p ∙ ap (λ t. listed ps p || t) e ∙ or_false (listed ps p))
+          ∙ sym (listed_push ps q p ∙ ap (λ t. listed ps p || t) e ∙ or-false (listed ps p))
         where
           off : same_pair q p ≡ false → q ≡ p → ⊥
           off f one = let z : true ≡ false = sym (same_pair_self p) ∙ ap (λ (x : Pair). same_pair x p) (sym one) ∙ f in cc
