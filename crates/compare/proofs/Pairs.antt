@@ -13,9 +13,6 @@ use Rattle.search.specs.declared.visit.Visit.{Visit}
 use Rattle.compare.specs.Walks.{pair_graph}
 use Rattle.compare.specs.Comparisons.{positions}
 
-none_some : {P : Type 0} {A : Type 0} (p : P) → None ≡ Some p → A
-none_some p e = absurd (let z : ◌≡◌ {A = ℕ} 0 1 = cc in omega arith)
-
 pub length_positions : {P : Type 0} (n : ℕ) (xs : List (Visit P)) → n ≤ length xs → length (positions (take n xs)) ≡ n
 length_positions n xs fits = length-map (take n xs) _ ∙ length-take-le n xs fits
 
@@ -26,7 +23,7 @@ module _ (m : Machine) (a b : ℕ) where
 
   -- the first letter's outputs decide, or the rest does
   met_differs : (s : List ℕ) (p : Pair) → run (pair_graph m a b) p s ≡ None → (k : ℕ) × (k < length s) × (differ_from p s k ≡ true)
-  met_differs [] p e = none_some p (sym e)
+  met_differs [] p e = absurd cc
   met_differs (l ∷ s) p e = go (differ (step_of m a p.first l).1 (step_of m b p.second l).1) refl e (met_differs s)
     where
       go : (t : Bool) → differ (step_of m a p.first l).1 (step_of m b p.second l).1 ≡ t → and_then (cond t None (Some (pair (step_of m a p.first l).0 (step_of m b p.second l).0))) (λ q. run (pair_graph m a b) q s) ≡ None → ((q : Pair) → run (pair_graph m a b) q s ≡ None → (k : ℕ) × (k < length s) × (differ_from q s k ≡ true)) → (k : ℕ) × (k < length (l ∷ s)) × (differ_from p (l ∷ s) k ≡ true)
@@ -47,7 +44,7 @@ module _ (m : Machine) (a b : ℕ) where
   run_leads (l ∷ s) p q e = go (differ (step_of m a p.first l).1 (step_of m b p.second l).1) e (run_leads s)
     where
       go : (t : Bool) → and_then (cond t None (Some (pair (step_of m a p.first l).0 (step_of m b p.second l).0))) (λ q. run (pair_graph m a b) q s) ≡ Some q → ((p q : Pair) → run (pair_graph m a b) p s ≡ Some q → pair (state_from m a p.first s) (state_from m b p.second s) ≡ q) → pair (state_from m a p.first (l ∷ s)) (state_from m b p.second (l ∷ s)) ≡ q
-      go true o ih = none_some q o
+      go true o ih = absurd cc
       go false o ih = ih _ q o
 
   pub goal_distinguishes : (s : List ℕ) → Letters m.letters s → run (pair_graph m a b) (reset_pair m a b) s ≡ None → Distinguishes m a b s

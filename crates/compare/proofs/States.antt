@@ -1,5 +1,5 @@
 -- The state walk meets its goal along a sequence exactly where a front of the sequence leads to the wanted state.
-use Rattle.std.proofs.Common.{◌≡◌, ℕ, Bool, true, false, cond, eqb, List, [], ◌∷◌, ◌++◌, length, Some, None, sym, refl, ap, ◌∙◌, subst, inl, inr, append-nil, arith, length-append}
+use Rattle.std.proofs.Common.{◌≡◌, ℕ, Bool, true, false, cond, eqb, List, [], ◌∷◌, ◌++◌, length, Some, None, refl, ap, ◌∙◌, subst, inl, inr, append-nil, arith, length-append}
 use Rattle.std.proofs.lemmas.List.{nil_from_length}
 use Rattle.std.proofs.lemmas.Bool.{eqb-true, eqb-false}
 use Rattle.machine.specs.Machines.{Machine, reset_of, step_of}
@@ -9,9 +9,6 @@ use Rattle.search.specs.Graphs.{and_then, run, LeastGoal}
 use Rattle.search.specs.Visits.{Exhaustive}
 use Rattle.search.specs.declared.visit.Visit.{Visit}
 use Rattle.compare.specs.Walks.{state_graph}
-
-none_some : {A : Type 0} (p : ℕ) → None ≡ Some p → A
-none_some p e = absurd (let z : ◌≡◌ {A = ℕ} 0 1 = cc in omega arith)
 
 front_letters : (n : ℕ) (s t : List ℕ) → Letters n (s ++ t) → Letters n s
 front_letters n [] t h = tt
@@ -33,7 +30,7 @@ module _ (m : Machine) (a q : ℕ) where
 
   met_arrives : (s : List ℕ) (p : ℕ) → run (state_graph m a q) p s ≡ None → Arrives p s
   unfolding Arrives
-  met_arrives [] p e = none_some p (sym e)
+  met_arrives [] p e = absurd cc
   met_arrives (l ∷ s) p e = go (eqb (step_of m a p l).0 q) refl e (met_arrives s)
     where
       next : ℕ

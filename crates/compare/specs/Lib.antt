@@ -3,4 +3,6 @@ pub mod Soundness
 pub mod Replays
 pub mod Reaches
 pub mod Checks
+pub mod PairSets
 pub mod Comparisons
+pub mod Verdicts

@@ -29,7 +29,7 @@ module _ (m : Machine) (sound : Sound m) (a b : ℕ) where
   stepped p l q e = go (differ (step_of m a p.first l).1 (step_of m b p.second l).1) e
     where
       go : (t : Bool) → cond t None (Some (pair (step_of m a p.first l).0 (step_of m b p.second l).0)) ≡ Some q → PairInside m q
-      go true o = absurd (let z : ◌≡◌ {A = ℕ} 0 1 = cc in omega arith)
+      go true o = absurd cc
       go false o =
           let x : (step_of m a p.first l).0 ≡ q.first = cc in
           let y : (step_of m b p.second l).0 ≡ q.second = cc in
@@ -49,7 +49,7 @@ module _ (m : Machine) (sound : Sound m) (a wanted : ℕ) where
   arrived p l q e = go ((step_of m a p l).0 == wanted) e
     where
       go : (t : Bool) → cond t None (Some (step_of m a p l).0) ≡ Some q → q < m.states
-      go true o = absurd (let z : ◌≡◌ {A = ℕ} 0 1 = cc in omega arith)
+      go true o = absurd cc
       go false o = let x : (step_of m a p l).0 ≡ q = cc in subst (λ (n : ℕ). n < m.states) x (next_below m sound a p l)
 
   pub state_sound : WalkSound (state_graph m a wanted) (λ q. q < m.states)
