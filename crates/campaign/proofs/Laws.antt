@@ -1,5 +1,5 @@
 -- Every history of calls on a fresh campaign is told truly, by induction over the calls.
-use Rattle.std.proofs.Common.{◌≡◌, ℕ, ◌+◌, Bool, true, false, cond, ltb, leb, List, [], ◌∷◌, length, get_or, Ok, Err, Result, sym, refl, ap, ◌∙◌, subst, inl, inr, arith}
+use Rattle.std.proofs.Common.{◌≡◌, ℕ, ◌+◌, Bool, true, false, cond, ltb, leb, List, [], ◌∷◌, length, get_or, Some, None, Ok, Err, Option, Result, sym, refl, ap, ◌∙◌, subst, inl, inr, arith}
 use Rattle.std.proofs.lemmas.Bool.{both_ways, ltb-true, lt-ltb, leb-true, le-leb}
 use Rattle.machine.specs.Machines.{Machine}
 use Rattle.machine.specs.Outputs.{Distinguishes, Equivalent, LeastDistinguishing}
@@ -10,8 +10,6 @@ use Rattle.compare.specs.Comparisons.{PairWork}
 use Rattle.campaign.specs.Books.{Entry, entry, Book, mark_of, letters_in}
 use Rattle.campaign.specs.Histories.{judge, Event, judged, admitted, marked_as, was_read, calls, Run, made, after_judge, after_admit, after_mark, after_read, Judges, CallKeeps, none, TrueRefusal, ShortestFor, begin, Lawful}
 use Rattle.campaign.specs.Rules.{Fault, HasNumber, HasLetters, ShortWork, Fresh, Keeps, admission, Admitted, JudgementRefused, Judged}
-use Rattle.campaign.specs.declared.judgement.Judgement.{Judgement}
-use Rattle.campaign.specs.declared.judgement.Judgement.TheVariants.{Undetectable as Never, Kept}
 use Rattle.campaign.specs.declared.mark.Mark.{Mark}
 use Rattle.campaign.specs.declared.mark.Mark.TheVariants.{Open}
 use Rattle.campaign.proofs.Differences.{legal_letters, at_most_length, equivalent_never, least_same}
@@ -64,11 +62,11 @@ module _ {m : Machine} {evs : List Event} (b : Book) (f v w : ℕ) (r : Refusal)
       go (inr (there, inr (opened, inl (is, short)))) = short_long m v w short j.1
       go (inr (there, inr (opened, inr (work, (t, least, full))))) = equivalent_never m 0 f (subst (λ (k : ℕ). Equivalent m 0 k) is_f same) t least.distinguishes
 
-step_judged : {m : Machine} {evs : List Event} (before after : Book) (f v w : ℕ) (r : Result Judgement Refusal) → KeepsLaw m evs before → Judged m before f v w r after → KeepsLaw m (judged f v w r ∷ evs) after
-step_judged before after f v w (Ok Never) h p =
+step_judged : {m : Machine} {evs : List Event} (before after : Book) (f v w : ℕ) (r : Result (Option ℕ) Refusal) → KeepsLaw m evs before → Judged m before f v w r after → KeepsLaw m (judged f v w r ∷ evs) after
+step_judged before after f v w (Ok None) h p =
     moved p.4.kept (one_settled h p.0 p.1 p.2 p.3 p.4.here p.4.elsewhere)
-step_judged {m} {evs} before after f v w (Ok (Kept n)) h p =
-    moved x.4.kept (one_kept h (judged f v w (Ok (Kept n))) (p.3, (x.0, keeps)) keeps x.1.distinguishes.letters x.4.marks
+step_judged {m} {evs} before after f v w (Ok (Some n)) h p =
+    moved x.4.kept (one_kept h (judged f v w (Ok (Some n))) (p.3, (x.0, keeps)) keeps x.1.distinguishes.letters x.4.marks
     (λ g j. subst (λ (k : ℕ). Distinguishes m 0 k x.0) j.0 x.1.distinguishes)
     (λ g q. (q, p.2)) (least_shortest x.1))
   where

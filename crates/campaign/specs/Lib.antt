@@ -1,4 +1,3 @@
-pub mod Bounds
 pub mod Books
 pub mod Rules
 pub mod Ledgers

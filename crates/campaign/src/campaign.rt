@@ -3,8 +3,7 @@ ghost use Rattle.campaign.specs.Books.{book};
 ghost use Rattle.campaign.specs.Histories.{KeptOnce, Lawful};
 ghost use Rattle.campaign.specs.Rules.{Admitted, Fresh, Judged, ReadOut, marked};
 
-use super::judgement::Judgement;
-use super::judging::{admit_sequence, judge_fault};
+use super::judging::is_fault;
 use super::ledger::Ledger;
 use super::mark::Mark;
 use machine::{Device, Pair, Refusal};
@@ -27,37 +26,37 @@ impl<D: Device> Campaign<D> {
     {
         Campaign {
             device,
-            ledger: Ledger::fresh(),
+            ledger: Ledger::new(),
         }
     }
 
-    // Judges an open fault: it is undetectable, or the least sequence that distinguishes it from the good machine is kept, with the fault as its origin.
+    // Judges an open fault: the least sequence that distinguishes it from the good machine is kept, with the fault as its origin, and its number is answered. None does where the fault is undetectable.
     // The work slices have an entry for each pair of states; what they hold does not matter and is lost.
     pub fn judge(
         &mut self,
         fault: u16,
         visits: &mut [Visit<Pair>],
         marks: &mut [u32],
-    ) -> Result<Judgement, Refusal>
+    ) -> Result<Option<u16>, Refusal>
         ensures judged { Judged (D.meaning self.old.device) (book self.old.ledger) fault (length visits.old) (length marks.old) result (book self.new.ledger) }
         ensures device { self.new.device ≡ self.old.device }
     {
-        judge_fault(&self.device, &mut self.ledger, fault, visits, marks)
+        self.ledger.judge(&self.device, fault, visits, marks)
     }
 
-    // Keeps a client's sequence with origin 0: its number.
+    // Keeps a client's sequence with origin 0, the number of the good machine: the sequence's number.
     pub fn admit(&mut self, sequence: &[u8]) -> Result<u16, Refusal>
         ensures admitted { Admitted (D.meaning self.old.device) (book self.old.ledger) sequence.now result (book self.new.ledger) }
         ensures device { self.new.device ≡ self.old.device }
     {
-        admit_sequence(&self.device, &mut self.ledger, sequence)
+        self.ledger.admit(&self.device, sequence)
     }
 
     // Where a fault stands.
     pub fn mark(&self, fault: u16) -> Result<Mark, Refusal>
         ensures { result ≡ marked (D.meaning self.now.device) (book self.now.ledger) fault }
     {
-        if fault == 0 || fault >= self.device.members() {
+        if !is_fault(&self.device, fault) {
             return Err(Refusal::NoSuchMember);
         }
         Ok(self.ledger.marks[fault as usize])
