@@ -12,7 +12,7 @@ use Rattle.search.specs.declared.found.Found.{Found}
 use Rattle.search.specs.declared.found.Found.TheVariants.{Goal, Exhausted, WorkTooShort, AnswerTooShort}
 use Rattle.search.specs.declared.visit.Visit.{Visit}
 use Rattle.campaign.specs.Books.{Book, book, letters_in, part}
-use Rattle.campaign.specs.Ledgers.{SearchedInto}
+use Rattle.campaign.specs.Ledgers.{NextPlace, SearchedInto}
 use Rattle.campaign.specs.Rules.{HasNumber}
 use Rattle.campaign.specs.declared.ledger.Ledger.{Ledger}
 use Rattle.campaign.proofs.Entries.{book_same, letters_used}
@@ -23,13 +23,12 @@ written start n xs s rest h size =
     ap (take n) (drop_at (take start xs) _ start (length-take-le start xs h) ∙ append_assoc s rest _) ∙ take_at s _ n size
 
 module _ (m : Machine) (before after : Ledger) (f v w start : ℕ) (new : List ℕ) (full : length before.letters ≡ 16384)
-    (low : before.used ≤ start) (high : start ≤ 16384)
-    (has_number : HasNumber (book before).kept → start ≡ before.used) (no_number : 256 ≤ length (book before).kept → start ≡ 16384)
+    (next : NextPlace before start)
     (letters : after.letters ≡ put_mid start (16384 - start) before.letters new)
     (marks : after.marks ≡ before.marks) (kept : after.kept ≡ before.kept) (used : after.used ≡ before.used) where
   same : book after ≡ book before
   same =
-      let front = ap (take before.used) letters ∙ take-put_mid_below start (16384 - start) before.letters new before.used low (omega arith) in
+      let front = ap (take before.used) letters ∙ take-put_mid_below start (16384 - start) before.letters new before.used next.behind (omega arith) in
       cc (book_same before after.letters front)
 
   same_count : length (book after).kept ≡ length (book before).kept
@@ -48,14 +47,14 @@ module _ (m : Machine) (before after : Ledger) (f v w start : ℕ) (new : List �
     where
       go : HasNumber (book before).kept ⊎ (256 ≤ length (book before).kept) → HasNumber (book before).kept
       go (inl h) = h
-      go (inr h) = let some = least.distinguishes.inside in let none = no_number h in absurd (omega arith)
+      go (inr h) = let some = least.distinguishes.inside in let none = next.full h in absurd (omega arith)
 
   pub searched_into : (r : Found) (xs : List (Visit Pair)) → PairsSearched m 0 f v w (take (16384 - start) (drop start before.letters)) r xs new → SearchedInto m before f v w r after
   searched_into (Goal n) xs (work, (s, least, size, first)) =
       let fits = first.0 in
       let inside : length s ≤ 16384 - start = omega (arith, room) in
       let number = numbered s least inside in
-      let at = has_number number in
+      let at = next.numbered number in
       let here : part after.used n after.letters ≡ s =
       ap (λ (k : ℕ). part k n after.letters) (used ∙ sym at)
       ∙ ap (part start n) (letters ∙ ap (λ (k : ℕ). put_mid start (k - start) before.letters new) (sym full) ∙ ap (put_mid start (length before.letters - start) before.letters) first.1)
@@ -65,4 +64,4 @@ module _ (m : Machine) (before after : Ledger) (f v w start : ℕ) (new : List �
   searched_into (Exhausted n) xs p = (p.0, p.1, same)
   searched_into WorkTooShort xs p = (p.0, same)
   searched_into AnswerTooShort xs (work, (s, least, long), kept) =
-      (work, (s, least, λ number. let at = has_number (omega (arith, same_count)) in omega (arith, room, same_letters, letters_used before full)), same)
+      (work, (s, least, λ number. let at = next.numbered (omega (arith, same_count)) in omega (arith, room, same_letters, letters_used before full)), same)

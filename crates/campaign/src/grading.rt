@@ -4,7 +4,7 @@ ghost use Rattle.campaign.specs.Books.{part};
 ghost use Rattle.campaign.specs.Ledgers.{Graded, Remarked};
 ghost use Rattle.campaign.specs.Rules.{graded};
 
-use super::ledger::{Kept, Ledger};
+use super::ledger::{Kept, Ledger, MEMBERS};
 use super::mark::Mark;
 use compare::first_difference;
 use machine::Device;
@@ -22,7 +22,7 @@ fn graded_mark<D: Device>(device: &D, fault: u16, mark: Mark, sequence: &[u8], n
 impl Ledger {
     // Grades one fault by a kept sequence.
     fn grade_fault<D: Device>(&mut self, device: &D, fault: u16, kept: Kept, number: u16)
-        requires { fault < 1025 }
+        requires { fault < MEMBERS }
         ensures { Remarked self.old fault (graded (D.meaning device.now) (part kept.start kept.length self.old.letters) number fault (slice_index_or self.old.marks fault Mark.Open)) self.new }
     {
         let mark = graded_mark(

@@ -34,7 +34,7 @@ impl Ledger {
         number
     }
 
-    // Searches for the least sequence that distinguishes a fault, and writes it where the next kept sequence goes. There is no room for it once all numbers are given.
+    // Searches for the least sequence that distinguishes a fault, and writes it where the next kept sequence goes.
     fn search<D: Device>(
         &mut self,
         device: &D,
@@ -44,7 +44,7 @@ impl Ledger {
     ) -> Found
         ensures { SearchedInto (D.meaning device.now) self.old fault (length visits.old) (length marks.old) result self.new }
     {
-        let start = if self.is_full() { LETTERS } else { self.used };
+        let start = self.next_place();
         search_pairs(device, 0, fault, visits, marks, &mut self.letters[start..])
     }
 

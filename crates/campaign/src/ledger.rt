@@ -9,7 +9,7 @@ pub(crate) const SEQUENCES: usize = 256;
 
 pub(crate) const LETTERS: usize = 16384;
 
-const MEMBERS: usize = 1025;
+pub(crate) const MEMBERS: usize = 1025;
 
 // Where a kept sequence lies among the letters, and the fault that it was found for, 0 if it was admitted.
 #[derive(Clone, Copy, PartialEq, Eq, Debug)]
@@ -53,7 +53,7 @@ fn settle(mark: &mut Mark, to: Mark)
 
 impl Ledger {
     ghost use Rattle.campaign.specs.Books.{book, letters_in, part};
-    ghost use Rattle.campaign.specs.Ledgers.{Appended, Remarked};
+    ghost use Rattle.campaign.specs.Ledgers.{Appended, NextPlace, Remarked};
     ghost use Rattle.campaign.specs.Rules.{Fresh, HasLetters, HasNumber, SetsMark};
 
     // Every fault open, nothing kept.
@@ -81,6 +81,13 @@ impl Ledger {
         ensures { IsTrue result ↔ (SEQUENCES ≤ length (book self.now).kept) }
     {
         self.kept.is_full()
+    }
+
+    // Where the letters of the next sequence go: behind the used ones, and past all letters once all numbers are given.
+    pub(crate) fn next_place(&self) -> usize
+        ensures { NextPlace self.now result }
+    {
+        if self.is_full() { LETTERS } else { self.used }
     }
 
     // Whether as many letters are left.
