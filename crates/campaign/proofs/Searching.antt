@@ -1,9 +1,8 @@
 -- A search that writes behind the used letters of a ledger.
-use Rattle.std.proofs.Common.{◌≡◌, ℕ, ◌-◌, ◌≤◌, ◌⊎◌, List, ◌++◌, length, take, drop, sym, ap, ◌∙◌, inl, inr, arith}
+use Rattle.std.proofs.Common.{◌≡◌, ℕ, ◌-◌, ◌≤◌, List, ◌++◌, length, take, drop, sym, ap, ◌∙◌, arith}
 use borrow.Rule.Slice.PartMut.{put_mid}
 use Rattle.std.proofs.lemmas.List.{length-take-le, length-drop, take_at, drop_at, append_assoc}
 use Rattle.std.proofs.lemmas.Slice.{take-put_mid_below}
-use Rattle.std.proofs.lemmas.Bool.{cases_lt}
 use Rattle.machine.specs.Machines.{Machine}
 use Rattle.machine.specs.Outputs.{LeastDistinguishing}
 use Rattle.machine.specs.declared.pair.Pair.{Pair}
@@ -43,11 +42,9 @@ module _ (m : Machine) (before after : Ledger) (f v w start : ℕ) (new : List �
 
   -- a sequence that distinguishes has letters, so there was a number for it
   numbered : (s : List ℕ) → LeastDistinguishing m 0 f s → length s ≤ 16384 - start → HasNumber (book before).kept
-  numbered s least fits = go (cases_lt (length (book before).kept) 256)
-    where
-      go : HasNumber (book before).kept ⊎ (256 ≤ length (book before).kept) → HasNumber (book before).kept
-      go (inl h) = h
-      go (inr h) = let some = least.distinguishes.inside in let none = next.full h in absurd (omega arith)
+  numbered s least fits =
+      let some = least.distinguishes.inside in
+      grind (arith, next.full)
 
   pub searched_into : (r : Found) (xs : List (Visit Pair)) → PairsSearched m 0 f v w (take (16384 - start) (drop start before.letters)) r xs new → SearchedInto m before f v w r after
   searched_into (Goal n) xs (work, (s, least, size, first)) =

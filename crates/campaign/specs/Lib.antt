@@ -1,4 +1,5 @@
 pub mod Books
+pub mod Standings
 pub mod Rules
 pub mod Ledgers
 pub mod Histories
