@@ -1,5 +1,5 @@
 -- One call more keeps what every history keeps: nothing changes, a sequence is kept, or a fault is settled.
-use Rattle.std.proofs.Common.{◌≡◌, ℕ, ◌+◌, ◌≤◌, true, false, ◌⊎◌, List, [], ◌∷◌, ◌++◌, length, is_some, None, Ok, sym, refl, ap, ◌∙◌, subst, inl, inr, arith}
+use Rattle.std.proofs.Common.{◌≡◌, ℕ, ◌+◌, ◌≤◌, true, false, ◌⊎◌, List, [], ◌∷◌, ◌++◌, length, is_some, None, Ok, sym, ap, ◌∙◌, subst, inl, inr, arith}
 use Rattle.std.proofs.lemmas.List.{length_push}
 use Rattle.std.proofs.lemmas.Bool.{both_ways, cases_eq}
 use Rattle.machine.specs.Machines.{Machine}
@@ -12,7 +12,7 @@ use Rattle.campaign.specs.Rules.{Fault, graded}
 use Rattle.campaign.specs.declared.mark.Mark.{Mark}
 use Rattle.campaign.specs.declared.mark.Mark.TheVariants.{Open, Found, Undetectable}
 use Rattle.campaign.proofs.Differences.{found_distinguishes, distinguishes_found, equivalent_never}
-use Rattle.campaign.proofs.Grades.{open_undetectable, found_undetectable, graded_open, graded_found, graded_undetectable, number_kept, numbered_old, numbered_new, old_or_new}
+use Rattle.campaign.proofs.Grades.{graded_open, graded_found, graded_undetectable, number_kept, numbered_old, numbered_new, old_or_new}
 use Rattle.campaign.proofs.Held.{Holds, open_unsettled}
 
 -- nothing changes
@@ -154,8 +154,8 @@ module _ {m : Machine} {evs : List Event} {es : List Entry} {marks marks' : ℕ 
       go (inr q) = let x = h.never g is (sym (elsewhere g q) ∙ p) in (inr x.0, x.1)
 
   settled_settles : (g : ℕ) → Fault m g → Equivalent m 0 g → SomeOf (Judges m g) (calls (judged f v w (Ok None) ∷ evs)) → marks' g ≡ Open → ⊥
-  settled_settles g is alike (inl j) p = open_undetectable (marks' g) p (ap marks' (sym j.0) ∙ here)
-  settled_settles g is alike (inr js) p = h.settles g is alike js (before g Open p (open_undetectable Open refl))
+  settled_settles g is alike (inl j) p = let u = ap marks' (sym j.0) ∙ here in cc
+  settled_settles g is alike (inr js) p = h.settles g is alike js (before g Open p (λ e. cc))
 
   settled_worked : (g : ℕ) → SomeOf (JudgedWell g) (judged f v w (Ok None) ∷ evs) → SomeOf (Judges m g) (calls (judged f v w (Ok None) ∷ evs))
   settled_worked g (inl q) = inl (q, work)
@@ -166,8 +166,8 @@ module _ {m : Machine} {evs : List Event} {es : List Entry} {marks marks' : ℕ 
     told = next h.told h.kept (fault, open_unsettled h f fault opened, work, same);
     kept = no_more h.kept (λ s origin c. equivalent_never m 0 f same s c.4.distinguishes);
     shortest = h.shortest;
-    open_none = λ g is p. h.open_none g is (before g Open p (open_undetectable Open refl));
-    found_first = λ g n is p. h.found_first g n is (before g (Found n) p (found_undetectable (Found n) n refl));
+    open_none = λ g is p. h.open_none g is (before g Open p (λ e. cc));
+    found_first = λ g n is p. h.found_first g n is (before g (Found n) p (λ e. cc));
     never = settled_never;
     settles = settled_settles;
     worked = settled_worked;
