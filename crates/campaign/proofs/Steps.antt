@@ -1,7 +1,7 @@
 -- One call more keeps what every history keeps: nothing changes, a sequence is kept, or a fault is settled.
 use Rattle.std.proofs.Common.{◌≡◌, ℕ, ◌+◌, ◌≤◌, true, false, ◌⊎◌, List, [], ◌∷◌, ◌++◌, length, is_some, None, Ok, sym, ap, ◌∙◌, subst, inl, inr, arith}
 use Rattle.std.proofs.lemmas.List.{length_push}
-use Rattle.std.proofs.lemmas.Bool.{both_ways, cases_eq}
+use Rattle.std.proofs.lemmas.Bool.{cases_eq}
 use Rattle.machine.specs.Machines.{Machine}
 use Rattle.machine.specs.Outputs.{first_difference, Distinguishes, Equivalent}
 use Rattle.machine.specs.Sequences.{Letters}
@@ -89,7 +89,7 @@ module _ {m : Machine} {evs : List Event} {es : List Entry} {marks marks' : ℕ 
 
       go : Numbered es n ⊎ (n ≡ length es + 1) → ⊥
       go (inl o) = h.open_none f fault g.0 n o (back f n o d)
-      go (inr o) = both_ways _ g.1 (distinguishes_found m 0 f s (last f n o d))
+      go (inr o) = cc (g.1, distinguishes_found m 0 f s (last f n o d))
 
   kept_found : (f n : ℕ) → Fault m f → marks' f ≡ Found n → First m more f n
   unfolding more
