@@ -65,12 +65,12 @@ step_judged : {m : Machine} {evs : List Event} (before after : Book) (f v w : �
 step_judged before after f v w (Ok None) h p =
     moved p.4.kept (one_settled h p.0 p.1 p.2 p.3 p.4.here p.4.elsewhere)
 step_judged {m} {evs} before after f v w (Ok (Some n)) h p =
-    moved x.4.kept (one_kept h (judged f v w (Ok (Some n))) (p.3, (x.0, keeps)) keeps x.1.distinguishes.letters x.4.marks
+    moved x.4.kept (one_kept h (judged f v w (Ok (Some n))) (p.3.0, (x.0, keeps)) keeps x.1.distinguishes.letters x.4.marks
     (λ g j. subst (λ (k : ℕ). Distinguishes m 0 k x.0) j.0 x.1.distinguishes)
     (λ g q. (q, p.2)) (least_shortest x.1))
   where
     x : (s : List ℕ) × LeastDistinguishing m 0 f s × HasNumber before.kept × HasLetters before.kept s × Keeps m before s f after
-    x = p.4
+    x = p.3.1
 
     keeps : CallKeeps m (calls evs) before.kept (judge f v w) x.0 f
     keeps = (refl, p.0, open_unsettled h f p.0 p.1, p.2, x.1, x.2, x.3)

@@ -4,10 +4,10 @@ use Rattle.machine.specs.Machines.{Machine}
 use Rattle.machine.specs.Outputs.{Distinguishes, Equivalent, LeastDistinguishing}
 use Rattle.machine.specs.Sequences.{legal}
 use Rattle.machine.specs.declared.refusal.Refusal.{Refusal}
-use Rattle.machine.specs.declared.refusal.Refusal.TheVariants.{NoSuchMember, WorkTooShort, FaultNotOpen, SequencesFull, LettersFull}
+use Rattle.machine.specs.declared.refusal.Refusal.TheVariants.{NoSuchMember, FaultNotOpen}
 use Rattle.compare.specs.Comparisons.{PairWork}
 use Rattle.campaign.specs.Books.{Entry, entry, Book, Numbered, numbered, letters_in}
-use Rattle.campaign.specs.Rules.{Fault, HasNumber, HasLetters, ShortWork, admission, Admitted, Judged, marked, ReadOut}
+use Rattle.campaign.specs.Rules.{Fault, HasNumber, HasLetters, KeepingRefused, admission, Admitted, Judged, marked, ReadOut}
 use Rattle.campaign.specs.declared.mark.Mark.{Mark}
 use Rattle.campaign.specs.declared.mark.Mark.TheVariants.{Open, Found, Undetectable}
 
@@ -107,9 +107,7 @@ abbrev pub TrueRefusal : Machine → List Call → List Entry → ℕ → ℕ �
 TrueRefusal m cs es f v w r =
     ((r ≡ NoSuchMember) × (Fault m f → ⊥))
     ⊎ (Fault m f × (((r ≡ FaultNotOpen) × Settled m cs es f)
-    ⊎ ((Settled m cs es f → ⊥) × (((r ≡ WorkTooShort) × ShortWork m v w)
-    ⊎ (PairWork m v w × ((s : List ℕ) × LeastDistinguishing m 0 f s × (((r ≡ SequencesFull) × (256 ≤ length es))
-    ⊎ (HasNumber es × (r ≡ LettersFull) × (16384 < letters_in es + length s)))))))))
+    ⊎ ((Settled m cs es f → ⊥) × KeepingRefused m es f v w r)))
 
 -- what a judgement answers is true: undetectable where no sequence distinguishes the fault, the next number where the least sequence is kept
 abbrev pub TrueJudgement : Machine → List Call → List Entry → ℕ → ℕ → ℕ → Result (Option ℕ) Refusal → Type 0

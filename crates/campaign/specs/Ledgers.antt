@@ -8,7 +8,7 @@ use Rattle.compare.specs.Comparisons.{PairWork}
 use Rattle.search.specs.declared.found.Found.{Found}
 use Rattle.search.specs.declared.found.Found.TheVariants.{Goal, Exhausted, WorkTooShort, AnswerTooShort}
 use Rattle.campaign.specs.Books.{Book, book, letters_in, part, entry_of}
-use Rattle.campaign.specs.Rules.{Fault, HasNumber, HasLetters, ShortWork, Keeps, graded}
+use Rattle.campaign.specs.Rules.{Fault, HasNumber, HasLetters, ShortWork, KeepsLeast, KeepingRefused, graded}
 use Rattle.campaign.specs.declared.ledger.Kept.{Kept}
 use Rattle.campaign.specs.declared.ledger.Ledger.{Ledger}
 use Rattle.campaign.specs.declared.mark.Mark.{Mark}
@@ -53,10 +53,6 @@ SearchedInto m before f v w AnswerTooShort after = PairWork m v w × ((s : List 
 
 -- the least sequence that distinguishes fault f is kept under the next number, or there is none, or it finds no place
 abbrev pub LeastKept : Machine → Book → ℕ → ℕ → ℕ → Result (Option ℕ) Refusal → Book → Type 0
-LeastKept m before f v w (Ok (Some n)) after = PairWork m v w × (n ≡ length before.kept + 1) × ((s : List ℕ) × LeastDistinguishing m 0 f s × HasNumber before.kept × HasLetters before.kept s × Keeps m before s f after)
-LeastKept m before f v w (Ok None) after = PairWork m v w × Equivalent m 0 f × (after.kept ≡ before.kept) × (after.marks ≡ before.marks)
-LeastKept m before f v w (Err r) after =
-    (((r ≡ NoWork) × ShortWork m v w)
-    ⊎ (PairWork m v w × ((s : List ℕ) × LeastDistinguishing m 0 f s × (((r ≡ SequencesFull) × (256 ≤ length before.kept))
-    ⊎ (HasNumber before.kept × (r ≡ LettersFull) × (16384 < letters_in before.kept + length s))))))
-    × (after ≡ before)
+LeastKept m before f v w (Ok (Some n)) after = PairWork m v w × KeepsLeast m before f n after
+LeastKept m before f v w (Ok None) after = PairWork m v w × Equivalent m 0 f × (after ≡ before)
+LeastKept m before f v w (Err r) after = KeepingRefused m before.kept f v w r × (after ≡ before)

@@ -65,19 +65,33 @@ abbrev pub Admitted : Machine → Book → List ℕ → Result ℕ Refusal → B
 Admitted m before s (Ok n) after = (admission m before.kept s ≡ Ok n) × Keeps m before s 0 after
 Admitted m before s (Err r) after = (admission m before.kept s ≡ Err r) × (after ≡ before)
 
+-- the least sequence that distinguishes fault f is kept, with the number n and the fault as its origin
+abbrev pub KeepsLeast : Machine → Book → ℕ → ℕ → Book → Type 0
+KeepsLeast m before f n after = (n ≡ length before.kept + 1) × ((s : List ℕ) × LeastDistinguishing m 0 f s × HasNumber before.kept × HasLetters before.kept s × Keeps m before s f after)
+
+-- why s finds no place behind the kept sequences: all numbers are given, or too few letters are left
+abbrev pub NoPlace : List Entry → List ℕ → Refusal → Type 0
+NoPlace es s r =
+    ((r ≡ SequencesFull) × (256 ≤ length es))
+    ⊎ (HasNumber es × (r ≡ LettersFull) × (16384 < letters_in es + length s))
+
+-- why the least sequence of fault f is not kept, over v visits and w mark words: the first that applies
+abbrev pub KeepingRefused : Machine → List Entry → ℕ → ℕ → ℕ → Refusal → Type 0
+KeepingRefused m es f v w r =
+    ((r ≡ WorkTooShort) × ShortWork m v w)
+    ⊎ (PairWork m v w × ((s : List ℕ) × LeastDistinguishing m 0 f s × NoPlace es s r))
+
 -- why the judgement of fault f is refused, over v visits and w mark words: the first that applies
 abbrev pub JudgementRefused : Machine → Book → ℕ → ℕ → ℕ → Refusal → Type 0
 JudgementRefused m b f v w r =
     ((r ≡ NoSuchMember) × (Fault m f → ⊥))
     ⊎ (Fault m f × (((r ≡ FaultNotOpen) × (mark_of b f ≢ Open))
-    ⊎ ((mark_of b f ≡ Open) × (((r ≡ WorkTooShort) × ShortWork m v w)
-    ⊎ (PairWork m v w × ((s : List ℕ) × LeastDistinguishing m 0 f s × (((r ≡ SequencesFull) × (256 ≤ length b.kept))
-    ⊎ (HasNumber b.kept × (r ≡ LettersFull) × (16384 < letters_in b.kept + length s)))))))))
+    ⊎ ((mark_of b f ≡ Open) × KeepingRefused m b.kept f v w r)))
 
 -- an open fault is found undetectable, or the least sequence that distinguishes it is kept, or nothing changes
 abbrev pub Judged : Machine → Book → ℕ → ℕ → ℕ → Result (Option ℕ) Refusal → Book → Type 0
 Judged m before f v w (Ok None) after = Fault m f × (mark_of before f ≡ Open) × PairWork m v w × Equivalent m 0 f × Settles before f after
-Judged m before f v w (Ok (Some n)) after = Fault m f × (mark_of before f ≡ Open) × PairWork m v w × (n ≡ length before.kept + 1) × ((s : List ℕ) × LeastDistinguishing m 0 f s × HasNumber before.kept × HasLetters before.kept s × Keeps m before s f after)
+Judged m before f v w (Ok (Some n)) after = Fault m f × (mark_of before f ≡ Open) × PairWork m v w × KeepsLeast m before f n after
 Judged m before f v w (Err r) after = JudgementRefused m before f v w r × (after ≡ before)
 
 -- the mark of fault f, or a refusal
