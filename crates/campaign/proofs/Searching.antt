@@ -1,5 +1,5 @@
 -- A search that writes behind the used letters of a ledger.
-use Rattle.std.proofs.Common.{◌≡◌, ℕ, ◌-◌, ◌≤◌, List, ◌++◌, length, take, drop, sym, ap, ◌∙◌, arith}
+use Rattle.std.proofs.Common.{◌≡◌, ℕ, ◌-◌, ◌≤◌, List, ◌++◌, length, take, drop, Ok, Err, Result, sym, ap, ◌∙◌, arith}
 use borrow.Rule.Slice.PartMut.{put_mid}
 use Rattle.std.proofs.lemmas.List.{length-take-le, length-drop, take_at, drop_at, append_assoc}
 use Rattle.std.proofs.lemmas.Slice.{take-put_mid_below}
@@ -8,7 +8,9 @@ use Rattle.machine.specs.Outputs.{LeastDistinguishing}
 use Rattle.machine.specs.declared.pair.Pair.{Pair}
 use Rattle.compare.specs.Comparisons.{PairsSearched}
 use Rattle.search.specs.declared.found.Found.{Found}
-use Rattle.search.specs.declared.found.Found.TheVariants.{Goal, Exhausted, WorkTooShort, AnswerTooShort}
+use Rattle.search.specs.declared.found.Found.TheVariants.{Goal, Exhausted}
+use Rattle.search.specs.declared.search_error.SearchError.{SearchError}
+use Rattle.search.specs.declared.search_error.SearchError.TheVariants.{WorkTooShort, AnswerTooShort}
 use Rattle.search.specs.declared.visit.Visit.{Visit}
 use Rattle.campaign.specs.Books.{Book, book, letters_in, part}
 use Rattle.campaign.specs.Ledgers.{NextPlace, SearchedInto}
@@ -46,8 +48,8 @@ module _ (m : Machine) (before after : Ledger) (f v w start : ℕ) (new : List �
       let some = least.distinguishes.inside in
       grind (arith, next.full)
 
-  pub searched_into : (r : Found) (xs : List (Visit Pair)) → PairsSearched m 0 f v w (take (16384 - start) (drop start before.letters)) r xs new → SearchedInto m before f v w r after
-  searched_into (Goal n) xs (work, (s, least, size, first)) =
+  pub searched_into : (r : Result Found SearchError) (xs : List (Visit Pair)) → PairsSearched m 0 f v w (take (16384 - start) (drop start before.letters)) r xs new → SearchedInto m before f v w r after
+  searched_into (Ok (Goal n)) xs (work, (s, least, size, first)) =
       let fits = first.0 in
       let inside : length s ≤ 16384 - start = omega (arith, room) in
       let number = numbered s least inside in
@@ -58,7 +60,7 @@ module _ (m : Machine) (before after : Ledger) (f v w start : ℕ) (new : List �
       ∙ written start n before.letters s _ (omega arith) size
       in
       (work, omega (arith, same_count), omega arith, rw here least, rw here (omega (arith, same_letters, letters_used before full)), same)
-  searched_into (Exhausted n) xs p = (p.0, p.1, same)
-  searched_into WorkTooShort xs p = (p.0, same)
-  searched_into AnswerTooShort xs (work, (s, least, long), kept) =
+  searched_into (Ok (Exhausted n)) xs p = (p.0, p.1, same)
+  searched_into (Err WorkTooShort) xs p = (p.0, same)
+  searched_into (Err AnswerTooShort) xs (work, (s, least, long), kept) =
       (work, (s, least, λ number. let at = next.numbered (omega (arith, same_count)) in omega (arith, room, same_letters, letters_used before full)), same)

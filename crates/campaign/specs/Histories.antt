@@ -1,12 +1,12 @@
 -- Every history of calls is told truly.
-use Rattle.std.specs.Prelude.{◌≡◌, ℕ, ◌+◌, ◌<◌, ◌≤◌, true, ◌⊎◌, ◌↔◌, List, [], ◌∷◌, ◌++◌, map, length, Some, None, Ok, Err, Option, Result, ◌≢◌}
+use Rattle.std.specs.Prelude.{◌≡◌, ℕ, ◌+◌, ◌≤◌, true, ◌⊎◌, ◌↔◌, List, [], ◌∷◌, ◌++◌, map, length, Some, None, Ok, Err, Option, Result, ◌≢◌}
 use Rattle.machine.specs.Machines.{Machine}
 use Rattle.machine.specs.Outputs.{Distinguishes, Equivalent, LeastDistinguishing}
 use Rattle.machine.specs.Sequences.{legal}
 use Rattle.machine.specs.declared.refusal.Refusal.{Refusal}
 use Rattle.machine.specs.declared.refusal.Refusal.TheVariants.{NoSuchMember, FaultNotOpen}
 use Rattle.compare.specs.Comparisons.{PairWork}
-use Rattle.campaign.specs.Books.{Entry, entry, Book, Numbered, numbered, letters_in}
+use Rattle.campaign.specs.Books.{Entry, entry, Book, Numbered, numbered}
 use Rattle.campaign.specs.Rules.{Fault, HasNumber, HasLetters, KeepingRefused, admission, Admitted, Judged, marked, ReadOut}
 use Rattle.campaign.specs.declared.mark.Mark.{Mark}
 use Rattle.campaign.specs.declared.mark.Mark.TheVariants.{Open, Found, Undetectable}

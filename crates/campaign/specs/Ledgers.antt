@@ -1,12 +1,13 @@
 -- What the parts of a campaign do to a ledger.
-use Rattle.std.specs.Prelude.{◌≡◌, ℕ, ◌+◌, ◌<◌, ◌≤◌, ◌⊎◌, List, [], ◌∷◌, ◌++◌, length, Some, None, Ok, Err, Option, Result, ◌≢◌, slice_index_or}
+use Rattle.std.specs.Prelude.{◌≡◌, ℕ, ◌+◌, ◌<◌, ◌≤◌, List, [], ◌∷◌, ◌++◌, length, Some, None, Ok, Err, Option, Result, ◌≢◌, slice_index_or}
 use Rattle.machine.specs.Machines.{Machine}
 use Rattle.machine.specs.Outputs.{Equivalent, LeastDistinguishing}
 use Rattle.machine.specs.declared.refusal.Refusal.{Refusal}
-use Rattle.machine.specs.declared.refusal.Refusal.TheVariants.{WorkTooShort as NoWork, SequencesFull, LettersFull}
 use Rattle.compare.specs.Comparisons.{PairWork}
 use Rattle.search.specs.declared.found.Found.{Found}
-use Rattle.search.specs.declared.found.Found.TheVariants.{Goal, Exhausted, WorkTooShort, AnswerTooShort}
+use Rattle.search.specs.declared.found.Found.TheVariants.{Goal, Exhausted}
+use Rattle.search.specs.declared.search_error.SearchError.{SearchError}
+use Rattle.search.specs.declared.search_error.SearchError.TheVariants.{WorkTooShort, AnswerTooShort}
 use Rattle.campaign.specs.Books.{Book, book, letters_in, part, entry_of}
 use Rattle.campaign.specs.Rules.{Fault, HasNumber, HasLetters, ShortWork, KeepsLeast, KeepingRefused, graded}
 use Rattle.campaign.specs.declared.ledger.Kept.{Kept}
@@ -45,11 +46,11 @@ pub record Graded (m : Machine) (before : Ledger) (s : List ℕ) (number : ℕ) 
   pub same : SameKept before after
 
 -- what a search for the least sequence of fault f leaves in a ledger: the sequence stands behind the used letters, where it fits, and the ledger says what it said
-abbrev pub SearchedInto : Machine → Ledger → ℕ → ℕ → ℕ → Found → Ledger → Type 0
-SearchedInto m before f v w (Goal n) after = PairWork m v w × HasNumber (book after).kept × (after.used + n ≤ 16384) × LeastDistinguishing m 0 f (part after.used n after.letters) × HasLetters (book after).kept (part after.used n after.letters) × (book after ≡ book before)
-SearchedInto m before f v w (Exhausted n) after = PairWork m v w × Equivalent m 0 f × (book after ≡ book before)
-SearchedInto m before f v w WorkTooShort after = ShortWork m v w × (book after ≡ book before)
-SearchedInto m before f v w AnswerTooShort after = PairWork m v w × ((s : List ℕ) × LeastDistinguishing m 0 f s × (HasNumber (book after).kept → 16384 < letters_in (book after).kept + length s)) × (book after ≡ book before)
+abbrev pub SearchedInto : Machine → Ledger → ℕ → ℕ → ℕ → Result Found SearchError → Ledger → Type 0
+SearchedInto m before f v w (Ok (Goal n)) after = PairWork m v w × HasNumber (book after).kept × (after.used + n ≤ 16384) × LeastDistinguishing m 0 f (part after.used n after.letters) × HasLetters (book after).kept (part after.used n after.letters) × (book after ≡ book before)
+SearchedInto m before f v w (Ok (Exhausted n)) after = PairWork m v w × Equivalent m 0 f × (book after ≡ book before)
+SearchedInto m before f v w (Err WorkTooShort) after = ShortWork m v w × (book after ≡ book before)
+SearchedInto m before f v w (Err AnswerTooShort) after = PairWork m v w × ((s : List ℕ) × LeastDistinguishing m 0 f s × (HasNumber (book after).kept → 16384 < letters_in (book after).kept + length s)) × (book after ≡ book before)
 
 -- the least sequence that distinguishes fault f is kept under the next number, or there is none, or it finds no place
 abbrev pub LeastKept : Machine → Book → ℕ → ℕ → ℕ → Result (Option ℕ) Refusal → Book → Type 0

@@ -7,7 +7,7 @@ use super::ledger::{Kept, LETTERS, Ledger};
 use super::mark::Mark;
 use compare::{is_legal, search_pairs};
 use machine::{Device, Pair, Refusal};
-use search::{Found, Visit};
+use search::{Found, SearchError, Visit};
 
 // Whether the device has a fault of this number.
 pub(crate) fn is_fault<D: Device>(device: &D, fault: u16) -> bool
@@ -41,7 +41,7 @@ impl Ledger {
         fault: u16,
         visits: &mut [Visit<Pair>],
         marks: &mut [u32],
-    ) -> Found
+    ) -> Result<Found, SearchError>
         ensures { SearchedInto (D.meaning device.now) self.old fault (length visits.old) (length marks.old) result self.new }
     {
         let start = self.next_place();
@@ -59,16 +59,11 @@ impl Ledger {
         ensures { LeastKept (D.meaning device.now) (book self.old) fault (length visits.old) (length marks.old) result (book self.new) }
     {
         match self.search(device, fault, visits, marks) {
-            Found::Goal { length } => Ok(Some(self.keep(device, length, fault))),
-            Found::Exhausted { count: _ } => Ok(None),
-            Found::WorkTooShort => Err(Refusal::WorkTooShort),
-            Found::AnswerTooShort => {
-                if self.is_full() {
-                    Err(Refusal::SequencesFull)
-                } else {
-                    Err(Refusal::LettersFull)
-                }
-            }
+            Ok(Found::Goal { length }) => Ok(Some(self.keep(device, length, fault))),
+            Ok(Found::Exhausted { .. }) => Ok(None),
+            Err(SearchError::WorkTooShort) => Err(Refusal::WorkTooShort),
+            Err(SearchError::AnswerTooShort) if self.is_full() => Err(Refusal::SequencesFull),
+            Err(SearchError::AnswerTooShort) => Err(Refusal::LettersFull),
         }
     }
 
