@@ -50,30 +50,25 @@ module _ {m : Machine} {evs : List Event} {es : List Entry} {marks marks' : ℕ 
     (judges : (f : ℕ) → Judges m f (call_of e) → Distinguishes m 0 f s)
     (well : (f : ℕ) → JudgedWell f e → Judges m f (call_of e))
     (shortest : ShortestFor m (entry s origin)) where
-  more : List Entry
+  abbrev more : List Entry
   more = es ++ entry s origin ∷ []
 
   was : (f : ℕ) (k : Mark) → Fault m f → marks' f ≡ k → graded m s (length es + 1) f (marks f) ≡ k
   was f k fault p = sym (grades f fault) ∙ p
 
   back : (f n : ℕ) → Numbered es n → Distinguishes m 0 f (numbered more n).letters → Distinguishes m 0 f (numbered es n).letters
-  unfolding more
   back f n i d = subst (λ (x : Entry). Distinguishes m 0 f x.letters) (numbered_old es (entry s origin) n i) d
 
   forth : (f n : ℕ) → Numbered es n → Distinguishes m 0 f (numbered es n).letters → Distinguishes m 0 f (numbered more n).letters
-  unfolding more
   forth f n i d = subst (λ (x : Entry). Distinguishes m 0 f x.letters) (sym (numbered_old es (entry s origin) n i)) d
 
   last : (f n : ℕ) → n ≡ length es + 1 → Distinguishes m 0 f (numbered more n).letters → Distinguishes m 0 f s
-  unfolding more
   last f n i d = subst (λ (x : Entry). Distinguishes m 0 f x.letters) (numbered_new es (entry s origin) n i) d
 
   at_last : (f n : ℕ) → n ≡ length es + 1 → Distinguishes m 0 f s → Distinguishes m 0 f (numbered more n).letters
-  unfolding more
   at_last f n i d = subst (λ (x : Entry). Distinguishes m 0 f x.letters) (sym (numbered_new es (entry s origin) n i)) d
 
   kept_shortest : (n : ℕ) → Numbered more n → ShortestFor m (numbered more n)
-  unfolding more
   kept_shortest n i = go (old_or_new es (entry s origin) n i)
     where
       go : Numbered es n ⊎ (n ≡ length es + 1) → ShortestFor m (numbered more n)
@@ -81,7 +76,6 @@ module _ {m : Machine} {evs : List Event} {es : List Entry} {marks marks' : ℕ 
       go (inr o) = subst (λ (x : Entry). ShortestFor m x) (sym (numbered_new es (entry s origin) n o)) shortest
 
   kept_open : (f : ℕ) → Fault m f → marks' f ≡ Open → (n : ℕ) → Numbered more n → Distinguishes m 0 f (numbered more n).letters → ⊥
-  unfolding more
   kept_open f fault p n i d = go (old_or_new es (entry s origin) n i)
     where
       g : (marks f ≡ Open) × (is_some (first_difference m 0 f s) ≡ false)
@@ -92,7 +86,6 @@ module _ {m : Machine} {evs : List Event} {es : List Entry} {marks marks' : ℕ 
       go (inr o) = cc (g.1, distinguishes_found m 0 f s (last f n o d))
 
   kept_found : (f n : ℕ) → Fault m f → marks' f ≡ Found n → First m more f n
-  unfolding more
   kept_found f n fault p = go (graded_found m s (length es + 1) f (marks f) n (was f (Found n) fault p))
     where
       go : (marks f ≡ Found n) ⊎ ((marks f ≡ Open) × (is_some (first_difference m 0 f s) ≡ true) × (length es + 1 ≡ n)) → First m more f n
@@ -127,7 +120,6 @@ module _ {m : Machine} {evs : List Event} {es : List Entry} {marks marks' : ℕ 
   kept_worked f (inr ws) = inr (h.worked f ws)
 
   pub one_kept : Holds m (e ∷ evs) (es ++ entry s origin ∷ []) marks'
-  unfolding more
   one_kept = record {
     told = next h.told h.kept is_true;
     kept = one_more s origin h.kept keeps;

@@ -41,7 +41,7 @@ impl<D: Device> Campaign<D> {
         }
     }
 
-    // Judges an open fault: the least sequence that distinguishes it from the good machine is kept, with the fault as its origin, and its number is answered. None does where the fault is undetectable.
+    // Judges an open fault: the number of the least sequence that distinguishes it from the good machine, which is kept with the fault as its origin, or none where the fault is undetectable.
     // The work slices have an entry for each pair of states; what they hold does not matter and is lost.
     pub fn judge(
         &mut self,

@@ -67,7 +67,7 @@ impl Ledger {
         }
     }
 
-    // Judges an open fault: the least sequence that distinguishes it is kept, or it is undetectable.
+    // Judges an open fault: the number of the least sequence that distinguishes it, which is kept, or none where it is undetectable.
     pub(crate) fn judge<D: Device>(
         &mut self,
         device: &D,

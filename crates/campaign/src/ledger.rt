@@ -11,7 +11,8 @@ pub(crate) const LETTERS: usize = 16384;
 
 pub(crate) const MEMBERS: usize = 1025;
 
-// Where a kept sequence lies among the letters, and the fault that it was found for, 0 if it was admitted.
+// Where a kept sequence lies among the letters, and the fault that it was found for.
+// The origin is a plain number, 0 for a client's sequence, since that is what the project's rules have clients read.
 #[derive(Clone, Copy, PartialEq, Eq, Debug)]
 pub(crate) struct Kept {
     pub(crate) start: usize,
@@ -31,7 +32,7 @@ impl Default for Kept {
     }
 }
 
-// The marks of the faults and the kept sequences, one behind the other in `letters`.
+// The marks by fault, and the kept sequences, one behind the other in `letters`.
 // `letters` is an array beside `used`, since a search writes its sequence in place behind the used ones before it is kept.
 #[derive(Drop)]
 pub(crate) struct Ledger {
