@@ -13,7 +13,7 @@ use Rattle.search.specs.declared.search_error.SearchError.{SearchError}
 use Rattle.search.specs.declared.search_error.SearchError.TheVariants.{WorkTooShort, AnswerTooShort}
 use Rattle.search.specs.declared.visit.Visit.{Visit}
 use Rattle.campaign.specs.Books.{Book, book, letters_in, part}
-use Rattle.campaign.specs.Ledgers.{NextPlace, SearchedInto}
+use Rattle.campaign.specs.Ledgers.{NextPlace, FoundNext, SearchedInto}
 use Rattle.campaign.specs.Rules.{HasNumber}
 use Rattle.campaign.specs.declared.ledger.Ledger.{Ledger}
 use Rattle.campaign.proofs.Entries.{book_same, letters_used}
@@ -59,7 +59,13 @@ module _ (m : Machine) (before after : Ledger) (f v w start : ℕ) (new : List �
       ∙ ap (part start n) (letters ∙ ap (λ (k : ℕ). put_mid start (k - start) before.letters new) (sym full) ∙ ap (put_mid start (length before.letters - start) before.letters) first.1)
       ∙ written start n before.letters s _ (omega arith) size
       in
-      (work, omega (arith, same_count), omega arith, rw here least, rw here (omega (arith, same_letters, letters_used before full)), same)
+      let found : FoundNext m after f n = record {
+        number = omega (arith, same_count);
+        room = omega arith;
+        least = rw here least;
+        fits = rw here (omega (arith, same_letters, letters_used before full));
+      } in
+      (work, found, same)
   searched_into (Ok (Exhausted n)) xs p = (p.0, p.1, same)
   searched_into (Err WorkTooShort) xs p = (p.0, same)
   searched_into (Err AnswerTooShort) xs (work, (s, least, long), kept) =

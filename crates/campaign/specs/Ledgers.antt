@@ -45,12 +45,23 @@ pub record Graded (m : Machine) (before : Ledger) (s : List ℕ) (number : ℕ) 
   pub marks : (f : ℕ) → Fault m f → slice_index_or after.marks f Open ≡ graded m s number f (slice_index_or before.marks f Open)
   pub same : SameKept before after
 
--- what a search for the least sequence of fault f leaves in a ledger: the sequence stands behind the used letters, where it fits, and the ledger says what it said
+-- the n letters behind the used ones are the least sequence that distinguishes fault f, and it can be kept
+pub record FoundNext (m : Machine) (l : Ledger) (f n : ℕ) : Type 0 where
+  pub number : HasNumber (book l).kept
+  pub room : l.used + n ≤ 16384
+  pub least : LeastDistinguishing m 0 f (part l.used n l.letters)
+  pub fits : HasLetters (book l).kept (part l.used n l.letters)
+
+-- the least sequence that distinguishes fault f has too many letters for those that are left, where a number is left
+abbrev pub FitsNowhere : Machine → Book → ℕ → Type 0
+FitsNowhere m b f = (s : List ℕ) × LeastDistinguishing m 0 f s × (HasNumber b.kept → 16384 < letters_in b.kept + length s)
+
+-- what a search for the least sequence of fault f leaves in a ledger, which says what it said
 abbrev pub SearchedInto : Machine → Ledger → ℕ → ℕ → ℕ → Result Found SearchError → Ledger → Type 0
-SearchedInto m before f v w (Ok (Goal n)) after = PairWork m v w × HasNumber (book after).kept × (after.used + n ≤ 16384) × LeastDistinguishing m 0 f (part after.used n after.letters) × HasLetters (book after).kept (part after.used n after.letters) × (book after ≡ book before)
+SearchedInto m before f v w (Ok (Goal n)) after = PairWork m v w × FoundNext m after f n × (book after ≡ book before)
 SearchedInto m before f v w (Ok (Exhausted n)) after = PairWork m v w × Equivalent m 0 f × (book after ≡ book before)
 SearchedInto m before f v w (Err WorkTooShort) after = ShortWork m v w × (book after ≡ book before)
-SearchedInto m before f v w (Err AnswerTooShort) after = PairWork m v w × ((s : List ℕ) × LeastDistinguishing m 0 f s × (HasNumber (book after).kept → 16384 < letters_in (book after).kept + length s)) × (book after ≡ book before)
+SearchedInto m before f v w (Err AnswerTooShort) after = PairWork m v w × FitsNowhere m (book after) f × (book after ≡ book before)
 
 -- the least sequence that distinguishes fault f is kept under the next number, or there is none, or it finds no place
 abbrev pub LeastKept : Machine → Book → ℕ → ℕ → ℕ → Result (Option ℕ) Refusal → Book → Type 0
