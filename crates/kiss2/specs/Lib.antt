@@ -1,5 +1,6 @@
 pub mod Texts
 pub mod Lines
+pub mod Scanning
 pub mod Headings
 pub mod Rows
 pub mod Readings

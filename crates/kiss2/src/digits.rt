@@ -6,19 +6,14 @@ ghost use Rattle.kiss2.specs.Rows.{has_width, is_bit, output_word};
 fn is_bit(byte: u8) -> bool
     ensures { result ≡ is_bit byte }
 {
-    byte == b'0' || byte == b'1' || byte == b'-'
+    matches!(byte, b'0' | b'1' | b'-')
 }
 
 // Whether each byte is one.
 fn all_bits(bytes: &[u8]) -> bool
     ensures { result ≡ all is_bit bytes.now }
 {
-    for byte in bytes {
-        if !is_bit(*byte) {
-            return false;
-        }
-    }
-    true
+    bytes.iter().all(|byte| is_bit(*byte))
 }
 
 // Whether the word has as many such bytes as the width says, and no other.

@@ -8,23 +8,11 @@ use crate::line::{Key, opens_with_stop};
 use crate::part::{Part, Word};
 use machine::Refusal;
 
-// Whether the byte is a decimal digit.
-fn is_digit(byte: u8) -> bool
-    ensures { result ≡ is_digit byte }
-{
-    byte >= b'0' && byte <= b'9'
-}
-
-// Whether each byte is one.
+// Whether each byte is a decimal digit.
 fn all_digits(bytes: &[u8]) -> bool
     ensures { result ≡ all is_digit bytes.now }
 {
-    for byte in bytes {
-        if !is_digit(*byte) {
-            return false;
-        }
-    }
-    true
+    bytes.iter().all(|byte| byte.is_ascii_digit())
 }
 
 // Whether the word has one to five digits and nothing else.

@@ -1,13 +1,13 @@
 ghost use Rattle.std.specs.Prelude.{◌≡◌, ◌≤◌, length};
 ghost use Rattle.kiss2.specs.Texts.{Stands, part_of, words_left};
-ghost use Rattle.kiss2.specs.Lines.{ReadsAs, directive_of, key_of, line_of, opens_with_stop, row_of};
+ghost use Rattle.kiss2.specs.Lines.{ReadsAs, directive_of, line_of, opens_with_stop, row_of};
 
 use crate::part::Word;
 use crate::scanning::Words;
 use machine::Refusal;
 
 // The directives that take a word.
-#[derive(Clone, Copy)]
+#[derive(Clone, Copy, PartialEq, Eq, Hash, Debug)]
 pub enum Key {
     Inputs,
     Outputs,
@@ -17,7 +17,7 @@ pub enum Key {
 }
 
 // A line of a state table.
-#[derive(Clone, Copy)]
+#[derive(Clone, Copy, PartialEq, Eq, Hash, Debug)]
 pub enum Line<'t> {
     Blank,
     Directive { key: Key, value: Word<'t> },
@@ -26,7 +26,7 @@ pub enum Line<'t> {
 }
 
 // A row of a state table: at this input the current state goes to the next, with this output.
-#[derive(Clone, Copy)]
+#[derive(Clone, Copy, PartialEq, Eq, Hash, Debug)]
 pub struct Row<'t> {
     pub input: Word<'t>,
     pub current: Word<'t>,
@@ -44,16 +44,25 @@ impl<'t> Row<'t> {
 }
 
 // The directive that a letter names.
-fn key_of(letter: u8) -> Option<Key>
-    ensures { result ≡ key_of letter }
-{
-    match letter {
-        b'i' => Some(Key::Inputs),
-        b'o' => Some(Key::Outputs),
-        b'p' => Some(Key::Rows),
-        b's' => Some(Key::States),
-        b'r' => Some(Key::Reset),
-        _ => None,
+impl TryFrom<u8> for Key {
+    ghost use Rattle.std.specs.Prelude.{◌≡◌};
+    ghost use Rattle.std.specs.Option.{ok_or};
+    ghost use Rattle.machine.specs.declared.refusal.Refusal.TheVariants.{BadLine};
+    ghost use Rattle.kiss2.specs.Lines.{key_of};
+
+    type Error = Refusal;
+
+    ghost try_from_gives = { λ letter result. result ≡ ok_or (key_of letter) BadLine };
+
+    fn try_from(letter: u8) -> Result<Key, Refusal> {
+        match letter {
+            b'i' => Ok(Key::Inputs),
+            b'o' => Ok(Key::Outputs),
+            b'p' => Ok(Key::Rows),
+            b's' => Ok(Key::States),
+            b'r' => Ok(Key::Reset),
+            _ => Err(Refusal::BadLine),
+        }
     }
 }
 
@@ -61,10 +70,7 @@ fn key_of(letter: u8) -> Option<Key>
 pub(crate) fn opens_with_stop(bytes: &[u8]) -> bool
     ensures { result ≡ opens_with_stop bytes.now }
 {
-    match bytes {
-        [b'.', ..] => true,
-        _ => false,
-    }
+    matches!(bytes, [b'.', ..])
 }
 
 // A directive, by its letter and the words behind it.
@@ -72,18 +78,17 @@ fn directive_of<'t>(letter: u8, words: &mut Words<'t>) -> Result<Line<'t>, Refus
     ensures { ReadsAs words.old.text.now (directive_of letter (words_left words.old.text.now words.old.at words.old.end)) result }
 {
     let Some(value) = words.next() else {
-        return match letter {
-            b'e' => Ok(Line::End),
-            _ => Err(Refusal::BadLine),
+        return if letter == b'e' {
+            Ok(Line::End)
+        } else {
+            Err(Refusal::BadLine)
         };
     };
     if words.next().is_some() {
         return Err(Refusal::BadLine);
     }
-    match key_of(letter) {
-        Some(key) => Ok(Line::Directive { key, value }),
-        None => Err(Refusal::BadLine),
-    }
+    let key = Key::try_from(letter)?;
+    Ok(Line::Directive { key, value })
 }
 
 // A row, by its first word and those behind it.
@@ -91,15 +96,9 @@ fn row_of<'t>(input: Word<'t>, words: &mut Words<'t>) -> Result<Line<'t>, Refusa
     requires { Stands words.old.text.now input }
     ensures { ReadsAs words.old.text.now (row_of words.old.text.now (part_of input.entry) (words_left words.old.text.now words.old.at words.old.end)) result }
 {
-    let Some(current) = words.next() else {
-        return Err(Refusal::BadLine);
-    };
-    let Some(next) = words.next() else {
-        return Err(Refusal::BadLine);
-    };
-    let Some(output) = words.next() else {
-        return Err(Refusal::BadLine);
-    };
+    let current = words.next().ok_or(Refusal::BadLine)?;
+    let next = words.next().ok_or(Refusal::BadLine)?;
+    let output = words.next().ok_or(Refusal::BadLine)?;
     if words.next().is_some() || opens_with_stop(current.bytes) || opens_with_stop(next.bytes) {
         return Err(Refusal::BadLine);
     }

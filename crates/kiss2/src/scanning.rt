@@ -1,6 +1,6 @@
 ghost use Rattle.std.specs.Prelude.{◌≡◌, ◌≤◌, length, ◌==◌};
 ghost use Rattle.std.specs.List.{prefix_len};
-ghost use Rattle.kiss2.specs.Texts.{NextWord, ends_word, is_blank, line_length, word_length};
+ghost use Rattle.kiss2.specs.Texts.{ends_word, is_blank, line_length, word_length};
 
 use crate::part::Word;
 
@@ -8,7 +8,7 @@ use crate::part::Word;
 fn is_blank(byte: u8) -> bool
     ensures { result ≡ is_blank byte }
 {
-    byte == b' ' || byte == b'\t' || byte == b'\r'
+    matches!(byte, b' ' | b'\t' | b'\r')
 }
 
 // Whether no word goes on at the byte: it is a blank, or opens a comment.
@@ -30,12 +30,7 @@ pub(crate) fn line_length(text: &[u8]) -> usize
     ensures value { result ≡ line_length text.now }
     ensures bound { result ≤ length text.now }
 {
-    for (i, byte) in text.iter().enumerate() {
-        if ends_line(*byte) {
-            return i;
-        }
-    }
-    text.len()
+    text.iter().take_while(|byte| !ends_line(**byte)).count()
 }
 
 // How many blanks the line begins with.
@@ -43,12 +38,7 @@ fn blank_count(line: &[u8]) -> usize
     ensures value { result ≡ prefix_len is_blank line.now }
     ensures bound { result ≤ length line.now }
 {
-    for (i, byte) in line.iter().enumerate() {
-        if !is_blank(*byte) {
-            return i;
-        }
-    }
-    line.len()
+    line.iter().take_while(|byte| is_blank(**byte)).count()
 }
 
 // How many bytes the line's first word has, if the line begins with one.
@@ -56,12 +46,7 @@ fn word_length(line: &[u8]) -> usize
     ensures value { result ≡ word_length line.now }
     ensures bound { result ≤ length line.now }
 {
-    for (i, byte) in line.iter().enumerate() {
-        if ends_word(*byte) {
-            return i;
-        }
-    }
-    line.len()
+    line.iter().take_while(|byte| !ends_word(**byte)).count()
 }
 
 // The words of a line that are left: those of the text from `at` to `end`.
@@ -73,13 +58,18 @@ pub(crate) struct Words<'t> {
     ghost ok: { (at ≤ end) × (end ≤ length text.now) },
 }
 
-impl<'t> Words<'t> {
-    // The next word, if there is one.
-    pub(crate) fn next(&mut self) -> Option<Word<'t>>
-        ensures words { NextWord self.old.text.now self.old.at self.old.end result self.new.at }
-        ensures text { self.new.text ≡ self.old.text }
-        ensures end { self.new.end ≡ self.old.end }
-    {
+impl<'t> Iterator for Words<'t> {
+    ghost use Rattle.std.specs.Prelude.{◌-◌};
+    ghost use Rattle.std.specs.Iterator.{at_most};
+    ghost use Rattle.kiss2.specs.Scanning.{TakesWord};
+
+    type Item = Word<'t>;
+
+    ghost next_gives = { TakesWord };
+
+    ghost remaining = { λ words. at_most (words.end - words.at) };
+
+    fn next(&mut self) -> Option<Word<'t>> {
         let place = self.at + blank_count(&self.text[self.at..self.end]);
         let length = word_length(&self.text[place..self.end]);
         if length == 0 {
