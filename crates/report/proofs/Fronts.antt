@@ -1,5 +1,5 @@
 -- What two reads leave, as the outcome of the two texts.
-use Rattle.std.proofs.Common.{◌≡◌, ℕ, ◌*◌, ◌^◌, List, length, take, drop, Ok, Err, Result, sym, ap, ◌∙◌, subst}
+use Rattle.std.proofs.Common.{◌≡◌, ℕ, ◌*◌, ◌^◌, List, length, take, drop, Some, Ok, Err, Result, sym, ap, ◌∙◌, subst}
 use Rattle.std.proofs.lemmas.List.{take_at}
 use Rattle.machine.specs.Slices.{FirstEntries}
 use Rattle.devices.specs.declared.cell.Cell.{Cell}
@@ -9,11 +9,11 @@ use Rattle.kiss2.specs.Readings.{Reading, reading}
 use Rattle.kiss2.specs.declared.part.Part.{Part}
 use Rattle.kiss2.specs.declared.refused.Refused.{Refused}
 use Rattle.kiss2.specs.declared.shape.Shape.{Shape}
+use Rattle.kiss2.specs.declared.side.Side.TheVariants.{Good, Faulty}
 use Rattle.report.specs.Outcomes.{Outcome, refused}
 use Rattle.report.specs.Reports.{BothRead, Concludes, FaultyRead, GoodRead}
 use Rattle.report.specs.Sources.{front, held}
 use Rattle.report.specs.declared.source.Source.{Source}
-use Rattle.report.specs.declared.whom.Whom.TheVariants.{Good, Faulty}
 
 -- the first entries of a slice
 taken : {A : Type 0} (xs old new : List A) (n : ℕ) → FirstEntries xs old new → length xs ≡ n → take n new ≡ xs
@@ -47,11 +47,11 @@ sources_read g f good faulty x y v w o a b d e h =
 
 module _ (good faulty : List ℕ) (gc gn fc fn v w : ℕ) (o : Outcome) where
   -- the good text is refused
-  pub good_refused : (e : Refused) → reading good gn gc ≡ Err e → o ≡ refused e.refusal Good e.line → Concludes good faulty gc gn fc fn v w o
+  pub good_refused : (e : Refused) → reading good gn gc ≡ Err e → o ≡ refused e.refusal (Some Good) e.line → Concludes good faulty gc gn fc fn v w o
   good_refused e is h = subst (λ (u : Result Reading Refused). GoodRead good faulty u (reading faulty fn fc) v w o) (sym is) h
 
   -- the faulty text is refused
-  pub faulty_refused : (x : Reading) (e : Refused) → reading good gn gc ≡ Ok x → reading faulty fn fc ≡ Err e → o ≡ refused e.refusal Faulty e.line → Concludes good faulty gc gn fc fn v w o
+  pub faulty_refused : (x : Reading) (e : Refused) → reading good gn gc ≡ Ok x → reading faulty fn fc ≡ Err e → o ≡ refused e.refusal (Some Faulty) e.line → Concludes good faulty gc gn fc fn v w o
   faulty_refused x e is is' h =
       subst (λ (u : Result Reading Refused). GoodRead good faulty u (reading faulty fn fc) v w o) (sym is)
       (subst (λ (u : Result Reading Refused). FaultyRead good faulty x u v w o) (sym is') h)

@@ -1,5 +1,6 @@
 ghost use Rattle.std.specs.Prelude.{◌≡◌};
-ghost use Rattle.report.specs.Names.{Named, named};
+ghost use Rattle.kiss2.specs.Texts.{bytes_of};
+ghost use Rattle.report.specs.Names.{named};
 
 use kiss2::Part;
 
@@ -10,15 +11,22 @@ pub(crate) struct Names<'a> {
     pub(crate) entries: &'a [Part],
 }
 
+// The bytes of a part of a text, as far as the text reaches.
+fn cut(text: &[u8], part: Part) -> &[u8]
+    ensures { result.now ≡ bytes_of text.now part }
+{
+    let rest = text.get(part.place as usize..).unwrap_or(&[]);
+    rest.get(..part.length as usize).unwrap_or(rest)
+}
+
 impl<'a> Names<'a> {
-    // The name of a state.
+    // The name of a state, or nothing where there is no such state.
     pub(crate) fn of(self, state: u16) -> &'a [u8]
-        requires { Named self state }
         ensures { result.now ≡ named self.entry state }
     {
-        let entry = self.entries[state as usize];
-        let start = entry.place as usize;
-        let end = start + entry.length as usize;
-        &self.text[start..end]
+        match self.entries.get(state as usize) {
+            Some(entry) => cut(self.text, *entry),
+            None => &[],
+        }
     }
 }

@@ -1,68 +1,36 @@
-ghost use Rattle.std.specs.Prelude.{◌≡◌, ◌≤◌, map, length};
-ghost use Rattle.std.specs.List.{AllByRecursion};
+ghost use Rattle.std.specs.Prelude.{◌≡◌, length};
 ghost use Rattle.compare.specs.Comparisons.{FewLetters, PairsSearched};
 ghost use Rattle.kiss2.specs.Laws.{InRange};
-ghost use Rattle.report.specs.Outcomes.{differ, equivalent, refused, rendering};
+ghost use Rattle.report.specs.Outcomes.{refused, rendering};
 ghost use Rattle.report.specs.Reports.{Answered, BothRead, Compared, Concludes, Reported, both_machines, names_of, same_widths};
 ghost use Rattle.report.specs.Sources.{held};
-ghost use Rattle.report.specs.Names.{PairNamed, visit_names};
 
-use crate::names::Names;
-use crate::rendering::{put_listing, put_refusal, put_sequence};
+use crate::listing::Listing;
+use crate::outcome::Outcome;
+use crate::sequence::Sequence;
 use crate::source::Source;
-use crate::whom::Whom;
 use compare::search_pairs;
 use devices::Cell;
-use kiss2::{Part, Shape, read};
+use kiss2::{Part, Shape, Side, read};
 use layers::Rivals;
 use machine::{Pair, Refusal};
 use search::{Found, Visit};
 
-// Reports a refusal of a text, or of both, at a line.
-fn report_refusal(
+// Reports a refusal of one text, or of both, at a line.
+fn refuse(
     report: &mut [u8],
     refusal: Refusal,
-    whom: Whom,
+    side: Option<Side>,
     line: usize,
 ) -> Result<usize, Refusal>
-    ensures { Answered (rendering (refused refusal whom line)) report.old result report.new }
+    ensures { Answered (rendering (refused refusal side line)) report.old result report.new }
 {
-    let line_length = put_refusal(&mut [], refusal, whom, line);
-    if report.len() < line_length {
-        return Err(Refusal::AnswerTooShort);
-    }
-    Ok(put_refusal(report, refusal, whom, line))
-}
-
-// Reports a sequence that distinguishes.
-fn report_sequence(report: &mut [u8], width: u8, letters: &[u8]) -> Result<usize, Refusal>
-    requires narrow { width ≤ 6 }
-    requires few { length letters.now ≤ 65536 }
-    ensures { Answered (rendering (differ width letters.now)) report.old result report.new }
-{
-    let total = put_sequence(&mut [], width, letters);
-    if report.len() < total {
-        return Err(Refusal::AnswerTooShort);
-    }
-    Ok(put_sequence(report, width, letters))
-}
-
-// Reports the pairs that were visited, by the names of their states.
-fn report_pairs(
-    report: &mut [u8],
-    good: Names,
-    faulty: Names,
-    visits: &[Visit<Pair>],
-) -> Result<usize, Refusal>
-    requires there { AllByRecursion (λ v. PairNamed good faulty v.position) visits.now }
-    requires few { length visits.now ≤ 65536 }
-    ensures { Answered (rendering (equivalent (map (visit_names good.entry faulty.entry) visits.now))) report.old result report.new }
-{
-    let length = put_listing(&mut [], good, faulty, visits);
-    if report.len() < length {
-        return Err(Refusal::AnswerTooShort);
-    }
-    Ok(put_listing(report, good, faulty, visits))
+    let outcome = Outcome::Refused {
+        refusal,
+        side,
+        line,
+    };
+    outcome.answer(report)
 }
 
 // Searches for the least sequence that distinguishes two tables, which goes into `letters`. Where none does, the visits are left as the reachable pairs.
@@ -97,12 +65,21 @@ fn report_tables(
     let mut letters = [0u8; 65536];
     match search_tables(good, faulty, visits, marks, &mut letters) {
         Found::Goal { length } => {
-            report_sequence(report, good.shape.inputs, &letters[0..length])
+            let sequence = Sequence {
+                width: good.shape.inputs,
+                letters: &letters[0..length],
+            };
+            Outcome::Differ(sequence).answer(report)
         }
         Found::Exhausted { count } => {
-            report_pairs(report, good.names, faulty.names, &visits[0..count])
+            let listing = Listing {
+                good: good.names,
+                faulty: faulty.names,
+                visits: &visits[0..count],
+            };
+            Outcome::Equivalent(listing).answer(report)
         }
-        Found::WorkTooShort => report_refusal(report, Refusal::WorkTooShort, Whom::Both, 0),
+        Found::WorkTooShort => refuse(report, Refusal::WorkTooShort, None, 0),
         Found::AnswerTooShort => unreachable(),
     }
 }
@@ -127,7 +104,7 @@ fn report_sources(
     ensures { Reported (BothRead good.entry.names.text.now faulty.entry.names.text.now (held good.entry) (held faulty.entry) (length visits.old) (length marks.old)) report.old result report.new }
 {
     if !same_widths(good.shape, faulty.shape) {
-        return report_refusal(report, Refusal::WidthsDiffer, Whom::Both, 0);
+        return refuse(report, Refusal::WidthsDiffer, None, 0);
     }
     report_tables(good, faulty, visits, marks, report)
 }
@@ -150,11 +127,11 @@ pub fn report<'a>(
 {
     let good_shape = match read(good, good_cells, good_names) {
         Ok(shape) => shape,
-        Err(e) => return report_refusal(report, e.refusal, Whom::Good, e.line),
+        Err(e) => return refuse(report, e.refusal, Some(Side::Good), e.line),
     };
     let faulty_shape = match read(faulty, faulty_cells, faulty_names) {
         Ok(shape) => shape,
-        Err(e) => return report_refusal(report, e.refusal, Whom::Faulty, e.line),
+        Err(e) => return refuse(report, e.refusal, Some(Side::Faulty), e.line),
     };
     let good = Source::new(good, good_shape, good_cells, good_names);
     let faulty = Source::new(faulty, faulty_shape, faulty_cells, faulty_names);

@@ -1,19 +1,19 @@
-use Rattle.std.proofs.Common.{length, refl, ◌∙◌}
+use Rattle.std.proofs.Common.{length, Some, refl, ◌∙◌}
 use Rattle.report.specs.Outcomes.{refused}
-use Rattle.report.specs.declared.whom.Whom.TheVariants.{Good, Faulty}
+use Rattle.kiss2.specs.declared.side.Side.TheVariants.{Good, Faulty}
 use Rattle.report.proofs.Fronts.{both_read, faulty_refused, front_in_range, fronted, good_refused, source_in_range, sources_read}
 use Rattle.report.proofs.reporting.report.Goals as goal
 
 pub returns-in-Err : goal.returns-in-Err
 returns-in-Err c =
     let e = c.in-Err.e in
-    (refused e.refusal Good e.line, good_refused c.args.good.now c.args.faulty.now (length c.args.good_cells.now) (length c.args.good_names.now) (length c.args.faulty_cells.now) (length c.args.faulty_names.now) (length c.args.visits.now) (length c.args.marks.now) (refused e.refusal Good e.line) e c.in-Err.ensures refl, c.report_refusal.ensures)
+    (refused e.refusal (Some Good) e.line, good_refused c.args.good.now c.args.faulty.now (length c.args.good_cells.now) (length c.args.good_names.now) (length c.args.faulty_cells.now) (length c.args.faulty_names.now) (length c.args.visits.now) (length c.args.marks.now) (refused e.refusal (Some Good) e.line) e c.in-Err.ensures refl, c.refuse.ensures)
 
 pub returns-in-Err-read : goal.returns-in-Err-read
 returns-in-Err-read c =
     let e = c.in-Err-read.e in
     let x = c.in-Ok.ensures in
-    (refused e.refusal Faulty e.line, faulty_refused c.args.good.now c.args.faulty.now (length c.args.good_cells.now) (length c.args.good_names.now) (length c.args.faulty_cells.now) (length c.args.faulty_names.now) (length c.args.visits.now) (length c.args.marks.now) (refused e.refusal Faulty e.line) x.0 e x.1 c.in-Err-read.ensures refl, c.report_refusal-in-Err-read.ensures)
+    (refused e.refusal (Some Faulty) e.line, faulty_refused c.args.good.now c.args.faulty.now (length c.args.good_cells.now) (length c.args.good_names.now) (length c.args.faulty_cells.now) (length c.args.faulty_names.now) (length c.args.visits.now) (length c.args.marks.now) (refused e.refusal (Some Faulty) e.line) x.0 e x.1 c.in-Err-read.ensures refl, c.refuse-in-Err-read.ensures)
 
 pub new-good-requires : goal.new-good-requires
 new-good-requires c = front_in_range _ _ _ _ _ _ c.in-Ok.ensures
