@@ -1,12 +1,11 @@
 -- Texts that are written one behind another.
-use Rattle.std.proofs.Common.{◌≡◌, ℕ, suc, ◌+◌, ◌-◌, ◌^◌, ◌<◌, ◌≤◌, List, [], ◌∷◌, ◌++◌, length, drop, map, get_or, take, set, min, refl, ap, ◌∙◌, sym, subst, ⊎_elim, arith}
+use Rattle.std.proofs.Common.{◌≡◌, ℕ, suc, ◌+◌, ◌-◌, ◌^◌, ◌<◌, ◌≤◌, List, [], ◌∷◌, ◌++◌, length, drop, get_or, take, set, min, refl, ap, ◌∙◌, sym, subst, ⊎_elim, arith}
 use Rattle.std.proofs.lemmas.Bool.{cases_lt}
 use Rattle.std.proofs.Math.Seq.{length-sets}
 use lib.Seq.{sets, sets-eq}
 use Rattle.std.specs.List.{flat_map}
 use Rattle.std.proofs.lemmas.List.{length-append, set_past, take_all, take_more, flat_map_more}
-use Rattle.machine.specs.Slices.{FirstEntries}
-use Rattle.report.specs.Writing.{Adds}
+use Rattle.report.specs.Writing.{Adds, Rendered}
 use Rattle.report.specs.declared.writing.Writer.{Writer}
 
 sets_append : (l : List ℕ) (i : ℕ) (xs ys : List ℕ) → sets l i (xs ++ ys) ≡ sets (sets l i xs) (i + length xs) ys
@@ -58,20 +57,18 @@ adds_line {a} {b} {d} line xs i none low h k =
 pub adds_lines : {X : Type 0} {a b : Writer} (line : X → List ℕ) (xs : List X) (i : ℕ) → length xs ≤ i → Adds (flat_map line (take i xs)) a b → Adds (flat_map line xs) a b
 adds_lines {X} {a} {b} line xs i high h = subst (λ (t : List X). Adds (flat_map line t) a b) (take_all i xs high) h
 
--- what is counted is what the text has, and it stands in the first entries of the slice, if that has as many
-pub first_entries : {text old new : List ℕ} {a b d e : Writer} → new ≡ e.out.now → a.count ≡ 0 → Adds text a b → b.count ≤ length old → d.count ≡ 0 → d.out.now ≡ old → Adds text d e → (length text ≡ e.count) × FirstEntries text old new
-first_entries {text} {old} {new} {a} {b} {d} {e} is none counts fits none' begins adds =
-    let short : length old < 2 ^ 63 = omega (arith, d.addressable, ap length begins) in
-    let all : length text ≤ length old = omega (arith, counts.counted) in
-    let whole : 0 + length text ≡ length text = omega arith in (
-      omega (arith, adds.counted),
-      (
-        all,
+-- a text that is written into a slice from its first byte on
+pub adds_first : {text old new : List ℕ} {a b : Writer} → new ≡ b.out.now → a.count ≡ 0 → a.out.now ≡ old → Adds text a b → Rendered text old new b.count
+adds_first {text} {old} {new} {a} {b} is none begins adds = record {
+  counted = omega arith;
+  first = λ fits.
+      let whole : 0 + length text ≡ length text = omega arith in (
+        fits,
         is
             ∙ adds.bytes
-            ∙ ap (λ (z : List ℕ). sets z d.count text) begins
-            ∙ ap (λ (i : ℕ). sets old i text) none'
+            ∙ ap (λ (z : List ℕ). sets z a.count text) begins
+            ∙ ap (λ (i : ℕ). sets old i text) none
             ∙ sets-eq text old 0 (omega arith)
             ∙ ap (λ (k : ℕ). text ++ drop k old) whole,
-      ),
-    )
+      );
+}

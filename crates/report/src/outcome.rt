@@ -2,7 +2,7 @@ ghost use Rattle.std.specs.Prelude.{◌≡◌};
 ghost use Rattle.report.specs.Outcomes.{refused, rendering, whom_word};
 ghost use Rattle.report.specs.Reports.{Answered};
 ghost use Rattle.report.specs.Told.{told};
-ghost use Rattle.report.specs.Writing.{Adds};
+ghost use Rattle.report.specs.Writing.{Adds, Rendered};
 
 use crate::listing::Listing;
 use crate::sequence::Sequence;
@@ -62,18 +62,23 @@ impl Outcome<'_> {
         }
     }
 
-    // Writes the report into the first bytes of the slice, where it fits: how many there are. The bytes are counted first, by writing into an empty slice.
+    // Writes the report into the first bytes of the slice, as far as it reaches: how many bytes it has.
+    fn write_into(&self, report: &mut [u8]) -> usize
+        ensures { Rendered (rendering (told self.now)) report.old report.new result }
+    {
+        let mut out = Writer::new(report);
+        self.write(&mut out);
+        out.count
+    }
+
+    // Writes the report into the first bytes of the slice, where it fits: how many there are. They are counted first, by writing into an empty slice.
     pub(crate) fn answer(&self, report: &mut [u8]) -> Result<usize, Refusal>
         ensures { Answered (rendering (told self.now)) report.old result report.new }
     {
-        let mut counted = Writer::new(&mut []);
-        self.write(&mut counted);
-        let length = counted.count;
+        let length = self.write_into(&mut []);
         if report.len() < length {
             return Err(Refusal::AnswerTooShort);
         }
-        let mut out = Writer::new(report);
-        self.write(&mut out);
-        Ok(out.count)
+        Ok(self.write_into(report))
     }
 }
