@@ -1,4 +1,2 @@
 pub mod Writes
-pub mod Accepted
 pub mod Telling
-pub mod Fronts

@@ -9,34 +9,34 @@ use Rattle.search.specs.declared.visit.Visit.{Visit}
 use Rattle.compare.specs.Comparisons.{PairsSearched, positions}
 use Rattle.report.specs.Names.{visit_names}
 use Rattle.report.specs.Outcomes.{differ, equivalent, refused, rendering}
-use Rattle.report.specs.Reports.{Answered, Compared, Reported, both_machines, names_of}
-use Rattle.report.specs.Sources.{held}
-use Rattle.report.specs.declared.source.Source.{Source}
+use Rattle.report.specs.Reports.{Answered, Compared, Reported}
+use Rattle.report.specs.Sources.{machines_of, names_held}
+use Rattle.report.specs.declared.tables.Tables.{Tables}
 
 -- the front of a number that is written with - 0
 front : {X : Type 0} (n : ℕ) (xs : List X) → take (n - 0) xs ≡ take n xs
 front n xs = let e : n - 0 ≡ n = omega arith in ap (λ (k : ℕ). take k xs) e
 
 -- the names of the pairs, one by one
-names_same : (g f : Source) (vs : List (Visit Pair)) → map (visit_names g.names f.names) vs ≡ map (names_of g.names.text.now f.names.text.now (held g) (held f)) (positions vs)
-names_same g f [] = refl
-names_same g f (v ∷ vs) = ap (λ (ps : List (List ℕ × List ℕ)). visit_names g.names f.names v ∷ ps) (names_same g f vs)
+names_same : (t : Tables) (vs : List (Visit Pair)) → map (visit_names t.good.names t.faulty.names) vs ≡ map (names_held t) (positions vs)
+names_same t [] = refl
+names_same t (v ∷ vs) = ap (λ (ps : List (List ℕ × List ℕ)). visit_names t.good.names t.faulty.names v ∷ ps) (names_same t vs)
 
-module _ (g f : Source) (width v w : ℕ) (old new : List ℕ) (r : Result ℕ Refusal) where
+module _ (t : Tables) (width v w : ℕ) (old new : List ℕ) (r : Result ℕ Refusal) where
   abbrev Told : Type 0
-  Told = Reported (Compared (both_machines (held g) (held f)) width (names_of g.names.text.now f.names.text.now (held g) (held f)) v w) old r new
+  Told = Reported (Compared (machines_of t) width (names_held t) v w) old r new
 
-  pub tells_goal : (letters letters' : List ℕ) (xs : List (Visit Pair)) (n : ℕ) → PairsSearched (both_machines (held g) (held f)) 0 1 v w letters (Goal n) xs letters' → Answered (rendering (differ width (take (n - 0) letters'))) old r new → Told
+  pub tells_goal : (letters letters' : List ℕ) (xs : List (Visit Pair)) (n : ℕ) → PairsSearched (machines_of t) 0 1 v w letters (Goal n) xs letters' → Answered (rendering (differ width (take (n - 0) letters'))) old r new → Told
   tells_goal letters letters' xs n h a =
       let s = h.1.0 in
       let is : take (n - 0) letters' ≡ s = front n letters' ∙ ap (take n) h.1.3.1 ∙ take_at s (drop (length s) letters) n h.1.2 in
       (differ width s, inr (h.0, inl (s, refl, h.1.1)), subst (λ (t : List ℕ). Answered (rendering (differ width t)) old r new) is a)
 
-  pub tells_pairs : (letters letters' : List ℕ) (xs : List (Visit Pair)) (n : ℕ) → PairsSearched (both_machines (held g) (held f)) 0 1 v w letters (Exhausted n) xs letters' → Answered (rendering (equivalent (map (visit_names g.names f.names) (take (n - 0) xs)))) old r new → Told
+  pub tells_pairs : (letters letters' : List ℕ) (xs : List (Visit Pair)) (n : ℕ) → PairsSearched (machines_of t) 0 1 v w letters (Exhausted n) xs letters' → Answered (rendering (equivalent (map (visit_names t.good.names t.faulty.names) (take (n - 0) xs)))) old r new → Told
   tells_pairs letters letters' xs n h a =
       let ps = positions (take n xs) in
-      let is : map (visit_names g.names f.names) (take (n - 0) xs) ≡ map (names_of g.names.text.now f.names.text.now (held g) (held f)) ps = ap (map (visit_names g.names f.names)) (front n xs) ∙ names_same g f (take n xs) in
-      (equivalent (map (names_of g.names.text.now f.names.text.now (held g) (held f)) ps), inr (h.0, inr (ps, refl, h.1, h.4)), subst (λ (t : List (List ℕ × List ℕ)). Answered (rendering (equivalent t)) old r new) is a)
+      let is : map (visit_names t.good.names t.faulty.names) (take (n - 0) xs) ≡ map (names_held t) ps = ap (map (visit_names t.good.names t.faulty.names)) (front n xs) ∙ names_same t (take n xs) in
+      (equivalent (map (names_held t) ps), inr (h.0, inr (ps, refl, h.1, h.4)), subst (λ (t : List (List ℕ × List ℕ)). Answered (rendering (equivalent t)) old r new) is a)
 
-  pub tells_short : (letters letters' : List ℕ) (xs : List (Visit Pair)) → PairsSearched (both_machines (held g) (held f)) 0 1 v w letters NoWork xs letters' → Answered (rendering (refused WorkTooShort None 0)) old r new → Told
+  pub tells_short : (letters letters' : List ℕ) (xs : List (Visit Pair)) → PairsSearched (machines_of t) 0 1 v w letters NoWork xs letters' → Answered (rendering (refused WorkTooShort None 0)) old r new → Told
   tells_short letters letters' xs h a = (refused WorkTooShort None 0, inl (refl, h.0), a)

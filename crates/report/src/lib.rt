@@ -7,6 +7,7 @@ mod outcome;
 mod reporting;
 mod sequence;
 mod source;
+mod tables;
 mod writing;
 
 pub use reporting::report;

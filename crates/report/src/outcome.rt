@@ -82,3 +82,20 @@ impl Outcome<'_> {
         Ok(self.write_into(report))
     }
 }
+
+// Reports a refusal of one text, or of both, at a line.
+pub(crate) fn refuse(
+    report: &mut [u8],
+    refusal: Refusal,
+    side: Option<Side>,
+    line: usize,
+) -> Result<usize, Refusal>
+    ensures { Answered (rendering (refused refusal side line)) report.old result report.new }
+{
+    let outcome = Outcome::Refused {
+        refusal,
+        side,
+        line,
+    };
+    outcome.answer(report)
+}
