@@ -27,6 +27,7 @@ impl<'a> Writer<'a> {
     pub(crate) fn push(&mut self, byte: u8)
         ensures { Adds (byte ∷ []) self.old self.new }
     {
+        // By index: of a write behind `self.out.get_mut(..)` nothing is known afterwards.
         if self.count < self.out.len() {
             self.out[self.count] = byte;
         }
