@@ -10,7 +10,7 @@ use crate::source::Source;
 use compare::search_pairs;
 use layers::Rivals;
 use machine::{Pair, Refusal};
-use search::{Found, Visit};
+use search::{Found, SearchError, Visit};
 
 // Two state tables that are set side by side.
 #[derive(Clone, Copy)]
@@ -29,7 +29,12 @@ impl Tables<'_, '_> {
     }
 
     // Searches for the least sequence that distinguishes them, which goes into `letters`. Where none does, the visits are left as the reachable pairs.
-    fn search(&self, visits: &mut [Visit<Pair>], marks: &mut [u32], letters: &mut [u8]) -> Found
+    fn search(
+        &self,
+        visits: &mut [Visit<Pair>],
+        marks: &mut [u32],
+        letters: &mut [u8],
+    ) -> Result<Found, SearchError>
         ensures answer { PairsSearched (machines_of self.now) 0 1 (length visits.old) (length marks.old) letters.old result visits.new letters.new }
         ensures few { FewLetters (machines_of self.now) 0 1 result }
     {
@@ -48,14 +53,14 @@ impl Tables<'_, '_> {
     {
         let mut letters = [0u8; 65536];
         match self.search(visits, marks, &mut letters) {
-            Found::Goal { length } => {
+            Ok(Found::Goal { length }) => {
                 let sequence = Sequence {
                     width: self.good.shape.inputs,
                     letters: &letters[0..length],
                 };
                 Outcome::Differ(sequence).answer(report)
             }
-            Found::Exhausted { count } => {
+            Ok(Found::Exhausted { count }) => {
                 let listing = Listing {
                     good: self.good.names,
                     faulty: self.faulty.names,
@@ -63,8 +68,8 @@ impl Tables<'_, '_> {
                 };
                 Outcome::Equivalent(listing).answer(report)
             }
-            Found::WorkTooShort => refuse(report, Refusal::WorkTooShort, None, 0),
-            Found::AnswerTooShort => unreachable(),
+            // Only work slices can be too short: there are letters for each pair of states.
+            Err(error) => refuse(report, error.into(), None, 0),
         }
     }
 
