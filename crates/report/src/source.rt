@@ -31,8 +31,8 @@ impl<'a> Source<'a> {
         ensures refused { IfErr result (λ e. reading text.now (length names.old) (length cells.old) ≡ Err e) }
     {
         let shape = read(text, cells, names)?;
-        let entries = &names[0..shape.states as usize];
-        let cells = &cells[0..shape.cell_count()];
+        let entries = &names[..shape.states as usize];
+        let cells = &cells[..shape.cell_count()];
         Ok(Source {
             names: Names { text, entries },
             shape,

@@ -56,7 +56,7 @@ impl Tables<'_, '_> {
             Ok(Found::Goal { length }) => {
                 let sequence = Sequence {
                     width: self.good.shape.inputs,
-                    letters: &letters[0..length],
+                    letters: &letters[..length],
                 };
                 Outcome::Differ(sequence).answer(report)
             }
@@ -64,7 +64,7 @@ impl Tables<'_, '_> {
                 let listing = Listing {
                     good: self.good.names,
                     faulty: self.faulty.names,
-                    visits: &visits[0..count],
+                    visits: &visits[..count],
                 };
                 Outcome::Equivalent(listing).answer(report)
             }
