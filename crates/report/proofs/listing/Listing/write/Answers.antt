@@ -5,14 +5,11 @@ use Rattle.machine.specs.declared.pair.Pair.{Pair}
 use Rattle.search.specs.declared.visit.Visit.{Visit}
 use Rattle.report.specs.Names.{visit_names}
 use Rattle.report.specs.Outcomes.{pair_line}
-use Rattle.report.proofs.Writes.{adds_append, adds_line, adds_lines, adds_none}
+use Rattle.report.proofs.Writes.{adds_append, adds_line, adds_lines}
 use Rattle.report.proofs.listing.Listing.write.Goals as goal
 
 none : Visit Pair
 none = record { position = record { first = 0; second = 0 }; from = 0; letter = 0 }
-
-pub loop-visit-init : goal.loop-visit-init
-loop-visit-init c = adds_none _
 
 pub loop-visit-preserved : goal.loop-visit-preserved
 unfolding none
