@@ -11,6 +11,7 @@ use Rattle.machine.proofs.Orders.{before_irreflexive, at_most_antisymmetric}
 use Rattle.compare.specs.Checks.{listed, next_pair, flaw_at_places}
 use Rattle.compare.proofs.Flaws.{places_good}
 use Rattle.compare.proofs.Tables.{same_pair, same_pair_is}
+use Rattle.worked.proofs.Ways.{all_least, all_least_at, all_least_length}
 
 -- whether s stands before t
 abbrev pub lexical_test : List ℕ → List ℕ → Bool
@@ -22,8 +23,8 @@ abbrev pub before_test : List ℕ → List ℕ → Bool
 before_test s t = ltb (length s) (length t) || (eqb (length s) (length t) && lexical_test s t)
 
 lexical_sound : (s t : List ℕ) → lexical_test s t ≡ true → Lexical s t
-lexical_sound [] t e = absurd (let z : ◌≡◌ {A = ℕ} 0 1 = cc in omega arith)
-lexical_sound (x ∷ s) [] e = absurd (let z : ◌≡◌ {A = ℕ} 0 1 = cc in omega arith)
+lexical_sound [] t e = absurd cc
+lexical_sound (x ∷ s) [] e = absurd cc
 lexical_sound (x ∷ s) (y ∷ t) e = go (or_cases (ltb x y) (eqb x y && lexical_test s t) e) (lexical_sound s t)
   where
     go : (ltb x y ≡ true) ⊎ ((eqb x y && lexical_test s t) ≡ true) → (lexical_test s t ≡ true → Lexical s t) → Lexical (x ∷ s) (y ∷ t)
@@ -49,7 +50,7 @@ sorted_at (w ∷ ws) e zero (suc j) r h = before_sound w (get_or ws j []) (all_a
 sorted_at (w ∷ ws) e (suc i) (suc j) r h = sorted_at ws (and_parts (all (before_test w) ws) (sorted ws) e).1 i j (omega arith) (omega arith)
 
 listed_index : (ps : List Pair) (p d : Pair) → listed ps p ≡ true → (k : ℕ) × (k < length ps) × (get_or ps k d ≡ p)
-listed_index [] p d e = absurd (let z : ◌≡◌ {A = ℕ} 0 1 = cc in omega arith)
+listed_index [] p d e = absurd cc
 listed_index (q ∷ ps) p d e = go (or_cases (same_pair q p) (listed ps p) e) (listed_index ps p d)
   where
     go : (same_pair q p ≡ true) ⊎ (listed ps p ≡ true) → (listed ps p ≡ true → (k : ℕ) × (k < length ps) × (get_or ps k d ≡ p)) → (k : ℕ) × (k < length (q ∷ ps)) × (get_or (q ∷ ps) k d ≡ p)
@@ -57,11 +58,16 @@ listed_index (q ∷ ps) p d e = go (or_cases (same_pair q p) (listed ps p) e) (l
     go (inr h) ih = let x = ih h in let low = x.1 in (suc x.0, omega arith, x.2)
 
 module _ (m : Machine) (a b : ℕ) (ps : List Pair) (ws : List (List ℕ))
-    (size : length ws ≡ length ps)
     (has_reset : listed ps (reset_pair m a b) ≡ true)
     (closed : flaw_at_places m a b (listed ps) 0 ps ≡ None)
-    (least : (k : ℕ) → k < length ps → LeastTo m a b (pair_at m a b ps k) (get_or ws k []))
+    (ways : all_least m a b ps ws ≡ true)
     (ordered : sorted ws ≡ true) where
+  size : length ws ≡ length ps
+  size = all_least_length m a b ps ws ways
+
+  least : (k : ℕ) → k < length ps → LeastTo m a b (pair_at m a b ps k) (get_or ws k [])
+  least = all_least_at m a b ps ws ways
+
   stays : (s : List ℕ) (p : Pair) → listed ps p ≡ true → Letters m.letters s → listed ps (pair (state_from m a p.first s) (state_from m b p.second s)) ≡ true
   stays [] p h c = h
   stays (l ∷ s) p h c = stays s (next_pair m a b p l) (places_good m a b (listed ps) ps 0 closed p h l c.0).1 c.1
@@ -73,7 +79,7 @@ module _ (m : Machine) (a b : ℕ) (ps : List Pair) (ws : List (List ℕ))
   in_order i j s t r h x y =
       let u = least_same _ (get_or ws i []) s (least i (omega arith)) x in
       let v = least_same _ (get_or ws j []) t (least j h) y in
-      subst (λ (k : List ℕ). Before k t) u (subst (λ (k : List ℕ). Before (get_or ws i []) k) v (sorted_at ws ordered i j r (omega arith)))
+      subst (λ (k : List ℕ). Before k t) u (subst (λ (k : List ℕ). Before (get_or ws i []) k) v (sorted_at ws ordered i j r (omega (arith, size))))
 
   apart : (i j : ℕ) → i < j → j < length ps → pair_at m a b ps i ≡ pair_at m a b ps j → ⊥
   apart i j r h e =

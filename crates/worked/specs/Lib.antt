@@ -1,2 +1,3 @@
 pub mod Controller
 pub mod Cases
+pub mod Printing
