@@ -1,5 +1,5 @@
 -- The checks of gates and numbers, one by one.
-use Rattle.std.proofs.Common.{◌≡◌, ℕ, ◌+◌, Bool, ◌&&◌, ltb, List, [], ◌∷◌, length, refl, ap}
+use Rattle.std.proofs.Common.{◌≡◌, ℕ, ◌+◌, ◌&&◌, ltb, List, [], ◌∷◌, length, refl, ap}
 use Rattle.std.specs.List.{list_all, zip, range_with_len}
 use Rattle.gates.specs.Rules.{gate_ordered, gates_ordered, name_nets}
 use Rattle.gates.specs.declared.gate.Gate.{Gate}
