@@ -60,23 +60,24 @@ impl Nets {
     }
 
     // The word of the nets with these numbers, the first of them as bit 0.
+    #[tactic(auto, using(crate::proofs::Reading::word_more, crate::proofs::Reading::word_fits, crate::proofs::Reading::named_here))]
     pub(crate) fn word(&self, numbers: &[u16]) -> u32
         requires few { length numbers.now ≤ 32 }
         requires inside { name_nets 512 numbers.now ≡ true }
         ensures { result ≡ word_at self.now.values numbers.now }
     {
         let mut word = 0;
-        for number in numbers.iter().rev() {
-            word = push_bit(word, self.value(*number));
+        for (place, number) in numbers.iter().enumerate() {
+            word += bit(place, self.value(*number));
         }
         word
     }
 }
 
-// The word with one more bit below it.
-fn push_bit(word: u32, bit: bool) -> u32
-    requires { word < 2 ^ 31 }
-    ensures { result ≡ (if bit then 1 else 0) + 2 * word }
+// The bit of a place.
+fn bit(place: usize, value: bool) -> u32
+    requires { place < 32 }
+    ensures { result ≡ (if value then 2 ^ place else 0) }
 {
-    2 * word + bit as u32
+    (value as u32) << place
 }

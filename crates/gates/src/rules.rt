@@ -1,4 +1,4 @@
-ghost use Rattle.std.specs.Prelude.{◌≡◌, ◌+◌, ◌≤◌, length};
+ghost use Rattle.std.specs.Prelude.{◌≡◌, ◌+◌, ◌≤◌, length, nat_lt};
 ghost use Rattle.gates.specs.Rules.{gates_ordered, name_nets};
 
 use crate::gate::Gate;
@@ -13,9 +13,16 @@ pub(crate) fn gates_ordered(first: usize, gates: &[Gate]) -> bool
         .all(|(net, gate)| gate.is_ordered(net))
 }
 
-// Whether each number names one of the nets.
+// Whether a number names one of the nets.
+fn names_net(count: usize, number: u16) -> bool
+    ensures { result ≡ nat_lt number count }
+{
+    (number as usize) < count
+}
+
+// Whether each number does so.
 pub(crate) fn name_nets(count: usize, numbers: &[u16]) -> bool
     ensures { result ≡ name_nets count numbers.now }
 {
-    numbers.iter().all(|&number| (number as usize) < count)
+    numbers.iter().all(|&number| names_net(count, number))
 }
