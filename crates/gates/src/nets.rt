@@ -23,6 +23,7 @@ impl Nets {
     }
 
     // Writes the lowest bits of a word to the nets from a number on.
+    // By index: after a loop over iter_mut nothing is known of the elements.
     pub(crate) fn write_bits(&mut self, first: usize, count: usize, word: u16)
         requires { first + count ≤ 512 }
         ensures { take (first + count) self.new.values ≡ take first self.old.values ++ bits count word }
