@@ -8,6 +8,7 @@ pub struct Cell {
 }
 
 // A cell in the place of the good one at a state and a letter: one fault.
+// Its next state and output are fields of their own: with a Cell inside, each literal of a fault would be longer and no contract shorter.
 #[derive(Clone, Copy, PartialEq, Eq, PartialOrd, Ord, Hash, Default, Debug)]
 pub struct AlteredCell {
     pub state: u16,

@@ -1,9 +1,9 @@
 -- A pass over gates that are in order.
-use Rattle.std.proofs.Common.{◌≡◌, ℕ, zero, suc, ◌+◌, ◌-◌, ◌<◌, ◌≤◌, Bool, true, List, [], ◌∷◌, length, get_or, take, drop, set, sym, ap, ◌∙◌, subst, add_assoc, arith}
-use Rattle.std.proofs.lemmas.List.{drop_more}
+use Rattle.std.proofs.Common.{◌≡◌, ℕ, zero, suc, ◌+◌, ◌<◌, ◌≤◌, Bool, true, List, [], ◌∷◌, length, get_or, drop, set, sym, ap, ◌∙◌, subst, add_assoc, arith}
+use Rattle.std.proofs.lemmas.List.{drop_more, drop_all}
 use Rattle.std.proofs.lemmas.Bool.{and_parts, ltb-true}
 use Rattle.gates.specs.Nets.{gate_at}
-use Rattle.gates.specs.Passes.{passed, passed_part}
+use Rattle.gates.specs.Passes.{passed}
 use Rattle.gates.specs.Rules.{gate_ordered, gates_ordered}
 use Rattle.gates.specs.declared.gate.Gate.{Gate}
 use Rattle.gates.specs.declared.gate.Kind.TheVariants.{And}
@@ -30,17 +30,14 @@ reads_lower_at n (g ∷ gs) (suc i) h o =
     let e : n + 1 + i ≡ n + suc i = omega arith in
     subst (λ (m : ℕ). ReadsBelow m (get_or gs i no_gate)) e (reads_lower_at (n + 1) gs i (omega arith) (and_parts (gate_ordered n g) (gates_ordered (n + 1) gs) o).1)
 
-module _ (nets : List Bool) (n : ℕ) (gs : List Gate) (i j : ℕ) where
-  -- one more gate is evaluated
-  pub passed_more : i < j → j ≤ length gs → passed_part (set nets (n + i) (gate_at nets (get_or gs i no_gate))) n gs (i + 1) j ≡ passed_part nets n gs i j
-  passed_more h l =
-      let g : Gate = get_or gs i no_gate in
-      let on : List Bool = set nets (n + i) (gate_at nets g) in
-      let left : suc (j - (i + 1)) ≡ j - i = omega arith in
-      ap (λ (m : ℕ). passed on m (take (j - (i + 1)) (drop (i + 1) gs))) (sym (add_assoc n i 1))
-      ∙ ap (λ (rest : List Gate). passed nets (n + i) (take (suc (j - (i + 1))) rest)) (sym (drop_more gs i no_gate (omega arith)))
-      ∙ ap (λ (k : ℕ). passed nets (n + i) (take k (drop i gs))) left
+-- one more gate is evaluated
+pub passed_more : (nets : List Bool) (n : ℕ) (gs : List Gate) (i : ℕ) → i < length gs →
+    passed (set nets (n + i) (gate_at nets (get_or gs i no_gate))) (n + (i + 1)) (drop (i + 1) gs) ≡ passed nets (n + i) (drop i gs)
+passed_more nets n gs i h =
+    let on : List Bool = set nets (n + i) (gate_at nets (get_or gs i no_gate)) in
+    ap (λ (m : ℕ). passed on m (drop (i + 1) gs)) (sym (add_assoc n i 1))
+    ∙ ap (λ (rest : List Gate). passed nets (n + i) rest) (sym (drop_more gs i no_gate h))
 
-  -- no gate is left
-  pub passed_none : j ≤ i → passed_part nets n gs i j ≡ nets
-  passed_none h = let none : j - i ≡ 0 = omega arith in ap (λ (k : ℕ). passed nets (n + i) (take k (drop i gs))) none
+-- no gate is left
+pub passed_none : (nets : List Bool) (n : ℕ) (gs : List Gate) (i : ℕ) → length gs ≤ i → passed nets (n + i) (drop i gs) ≡ nets
+passed_none nets n gs i h = ap (λ (rest : List Gate). passed nets (n + i) rest) (drop_all i gs h)

@@ -1,10 +1,12 @@
--- The loop that reads a word, from its highest bit down.
-use Rattle.std.proofs.Common.{◌≡◌, ℕ, zero, suc, ◌+◌, ◌-◌, ◌*◌, ◌^◌, ◌<◌, ◌≤◌, Bool, true, false, cond, ltb, List, [], ◌∷◌, map, length, get_or, take, drop, refl, ap, ◌∙◌, arith, pow_mono}
-use Rattle.std.proofs.lemmas.List.{at_drop_more, at_drop_all, get_or-take, length-map, length-drop}
+-- The loop that reads a word, from its lowest bit up.
+use Rattle.std.proofs.Common.{◌≡◌, ℕ, zero, suc, ◌+◌, ◌*◌, ◌^◌, ◌<◌, ◌≤◌, Bool, true, false, cond, ltb, List, [], ◌∷◌, ◌++◌, map, length, get_or, take, refl, ap, ◌∙◌, arith, pow_mono}
+use Rattle.std.proofs.Math.Nat.{pow-succ'}
+use Rattle.std.proofs.lemmas.List.{map_more, get_or-take, length-map, length-take-le}
 use Rattle.std.proofs.lemmas.Bool.{and_from, and_parts, lt-ltb, ltb-true}
-use Rattle.gates.specs.Words.{word_lt}
+use Rattle.gates.specs.Words.{word}
 use Rattle.gates.specs.Nets.{value_at, word_at}
 use Rattle.gates.specs.Rules.{name_nets}
+use Rattle.gates.specs.Soundness.{word_at_lt}
 
 -- each of the numbers is below n
 pub named_here : (n : ℕ) (ks : List ℕ) (i : ℕ) → i < length ks → name_nets n ks ≡ true → get_or ks i 0 < n
@@ -12,24 +14,30 @@ named_here n [] i h p = absurd (omega arith)
 named_here n (k ∷ ks) zero h p = ltb-true k n (and_parts (ltb k n) (name_nets n ks) p).0
 named_here n (k ∷ ks) (suc i) h p = named_here n ks i (omega arith) (and_parts (ltb k n) (name_nets n ks) p).1
 
-module _ (nets : List Bool) (ks : List ℕ) where
-  -- the word of no bits
-  pub word_none : word_at nets (drop (length ks) ks) ≡ 0
-  word_none = at_drop_all (word_at nets) ks (length ks) (omega arith)
+-- one more bit on top
+word_push : (bs : List Bool) (b : Bool) → word (bs ++ b ∷ []) ≡ word bs + cond b (2 ^ length bs) 0
+word_push [] true = refl
+word_push [] false = refl
+word_push (x ∷ bs) b =
+    let more : word (bs ++ b ∷ []) ≡ word bs + cond b (2 ^ length bs) 0 = word_push bs b in
+    let twice : cond b (2 ^ length (x ∷ bs)) 0 ≡ 2 * cond b (2 ^ length bs) 0 = elim b as (λ v. cond v (2 ^ length (x ∷ bs)) 0 ≡ 2 * cond v (2 ^ length bs) 0) [ true ↦ pow-succ' 2 (length bs) | false ↦ refl ] in
+    omega (arith, more, twice)
 
-  -- one more bit below
-  pub word_more : (i : ℕ) → 0 < i → i ≤ length ks → word_at nets (drop (i - 1) ks) ≡ cond (value_at nets (get_or ks (i - 1) 0)) 1 0 + 2 * word_at nets (drop i ks)
-  word_more i h l =
-      let e : i - 1 + 1 ≡ i = omega arith in
-      at_drop_more (word_at nets) ks (i - 1) 0 (omega arith) ∙ ap (λ (k : ℕ). cond (value_at nets (get_or ks (i - 1) 0)) 1 0 + 2 * word_at nets (drop k ks)) e
+module _ (nets : List Bool) (ks : List ℕ) (i : ℕ) (h : i < length ks) where
+  -- one more number is read
+  pub word_more : word_at nets (take (i + 1) ks) ≡ word_at nets (take i ks) + cond (value_at nets (get_or ks i 0)) (2 ^ i) 0
+  word_more =
+      let bs : List Bool = map (value_at nets) (take i ks) in
+      let b : Bool = value_at nets (get_or ks i 0) in
+      let count : length bs ≡ i = length-map (take i ks) (value_at nets) ∙ length-take-le i ks (omega arith) in
+      ap word (map_more (value_at nets) ks i 0 h) ∙ word_push bs b ∙ ap (λ (n : ℕ). word bs + cond b (2 ^ n) 0) count
 
-  -- the word of the places above the lowest has room for one more bit
-  pub word_room : (i : ℕ) → 0 < i → length ks ≤ 32 → word_at nets (drop i ks) < 2 ^ 31
-  word_room i h l =
-      let n : length (map (value_at nets) (drop i ks)) ≡ length ks - i = length-map (drop i ks) (value_at nets) ∙ length-drop i ks in
-      let few : length (map (value_at nets) (drop i ks)) ≤ 31 = omega arith in
-      let top : 2 ^ length (map (value_at nets) (drop i ks)) ≤ 2 ^ 31 = pow_mono few in
-      omega (arith, word_lt (map (value_at nets) (drop i ks)))
+  -- the word fits
+  pub word_fits : length ks ≤ 32 → word_at nets (take i ks) + cond (value_at nets (get_or ks i 0)) (2 ^ i) 0 < 2 ^ 32
+  word_fits few =
+      let count : length (take (i + 1) ks) ≤ 32 = omega (arith, length-take-le (i + 1) ks (omega arith)) in
+      let top : 2 ^ length (take (i + 1) ks) ≤ 2 ^ 32 = pow_mono count in
+      omega (arith, word_more, word_at_lt nets (take (i + 1) ks))
 
 -- the numbers name nets among more
 pub name_more : (m n : ℕ) (ks : List ℕ) → m ≤ n → name_nets m ks ≡ true → name_nets n ks ≡ true

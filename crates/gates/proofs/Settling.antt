@@ -1,17 +1,17 @@
 -- A pass over all gates gives the values of all nets.
 use Rattle.std.proofs.Common.{◌≡◌, ℕ, zero, suc, ◌+◌, ◌-◌, ◌*◌, ◌/◌, ◌%◌, ◌<◌, ◌≤◌, Bool, true, false, eqb, List, [], ◌∷◌, ◌++◌, length, take, drop, set, sym, refl, ap, ◌∙◌, subst, arith}
-use Rattle.std.proofs.lemmas.List.{take_more_set, take_all, take_rest, length-set, length-take-le, length-drop, get_or-take}
+use Rattle.std.proofs.lemmas.List.{take_more_set, length-set, length-take-le, length-drop, get_or-take}
 use Rattle.std.proofs.lemmas.Bool.{and_parts, and_from}
 use Rattle.gates.specs.Words.{bits}
 use Rattle.gates.specs.Nets.{held, held_from, gate_at, with_gates}
-use Rattle.gates.specs.Passes.{passed, passed_part, passed_held}
+use Rattle.gates.specs.Passes.{passed, passed_held}
 use Rattle.gates.specs.Rules.{gate_ordered, gates_ordered}
 use Rattle.gates.specs.declared.gate.Gate.{Gate}
 use Rattle.gates.proofs.Passing.{reads_lower}
 use Rattle.gates.proofs.Holding.{held_none, held_from_none, held_here, held_other, stuck_evaluated, take_written}
 
 -- the first k gates are in order
-ordered_take : (n k : ℕ) (gs : List Gate) → gates_ordered n gs ≡ true → gates_ordered n (take k gs) ≡ true
+pub ordered_take : (n k : ℕ) (gs : List Gate) → gates_ordered n gs ≡ true → gates_ordered n (take k gs) ≡ true
 ordered_take n zero gs o = refl
 ordered_take n (suc k) [] o = refl
 ordered_take n (suc k) (g ∷ gs) o =
@@ -19,7 +19,7 @@ ordered_take n (suc k) (g ∷ gs) o =
     and_from (gate_ordered n g) _ parts.0 (ordered_take (n + 1) k gs parts.1)
 
 -- and so are the others
-ordered_drop : (n k : ℕ) (gs : List Gate) → gates_ordered n gs ≡ true → gates_ordered (n + k) (drop k gs) ≡ true
+pub ordered_drop : (n k : ℕ) (gs : List Gate) → gates_ordered n gs ≡ true → gates_ordered (n + k) (drop k gs) ≡ true
 ordered_drop n zero gs o = let e : n ≡ n + 0 = omega arith in subst (λ (m : ℕ). gates_ordered m gs ≡ true) e o
 ordered_drop n (suc k) [] o = refl
 ordered_drop n (suc k) (g ∷ gs) o =
@@ -50,30 +50,22 @@ passed_is nets n (g ∷ gs) o h =
 
 module _ (nets : List Bool) (n : ℕ) (gs : List Gate) (o : gates_ordered n gs ≡ true) (room : n + length gs ≤ length nets) where
   -- the first k gates
-  front_is : (k : ℕ) → k ≤ length gs → take (n + k) (passed_part nets n gs 0 k) ≡ with_gates 0 (take n nets) (take k gs)
+  front_is : (k : ℕ) → k ≤ length gs → take (n + k) (passed nets n (take k gs)) ≡ with_gates 0 (take n nets) (take k gs)
   front_is k h =
       let count : length (take k gs) ≡ k = length-take-le k gs h in
-      let base : n + 0 ≡ n = omega arith in
-      let all : k - 0 ≡ k = omega arith in
-      ap (λ (m : ℕ). take (n + k) (passed nets m (take (k - 0) gs))) base
-      ∙ ap (λ (m : ℕ). take (n + k) (passed nets n (take m gs))) all
-      ∙ ap (λ (m : ℕ). take (n + m) (passed nets n (take k gs))) (sym count)
+      ap (λ (m : ℕ). take (n + m) (passed nets n (take k gs))) (sym count)
       ∙ passed_is nets n (take k gs) (ordered_take n k gs o) (omega arith)
 
   -- the gates after the first k
-  back_is : (k : ℕ) → k ≤ length gs → take (n + length gs) (passed_part nets n gs k (length gs)) ≡ with_gates 0 (take (n + k) nets) (drop k gs)
+  back_is : (k : ℕ) → k ≤ length gs → take (n + length gs) (passed nets (n + k) (drop k gs)) ≡ with_gates 0 (take (n + k) nets) (drop k gs)
   back_is k h =
       let count : n + k + length (drop k gs) ≡ n + length gs = omega (arith, length-drop k gs) in
-      ap (λ (rest : List Gate). take (n + length gs) (passed nets (n + k) rest)) (take_rest gs k)
-      ∙ ap (λ (m : ℕ). take m (passed nets (n + k) (drop k gs))) (sym count)
+      ap (λ (m : ℕ). take m (passed nets (n + k) (drop k gs))) (sym count)
       ∙ passed_is nets (n + k) (drop k gs) (ordered_drop n k gs o) (omega arith)
 
   -- the good machine
-  pub good_settled : take (n + length gs) (passed_part nets n gs 0 (length gs)) ≡ with_gates 0 (held_from 0 0 (take n nets)) gs
-  good_settled =
-      front_is (length gs) (omega arith)
-      ∙ ap (λ (rest : List Gate). with_gates 0 (take n nets) rest) (take_all (length gs) gs (omega arith))
-      ∙ ap (λ (ns : List Bool). with_gates 0 ns gs) (sym (held_from_none 0 (take n nets)))
+  pub good_settled : take (n + length gs) (passed nets n gs) ≡ with_gates 0 (held_from 0 0 (take n nets)) gs
+  good_settled = passed_is nets n gs o room ∙ ap (λ (ns : List Bool). with_gates 0 ns gs) (sym (held_from_none 0 (take n nets)))
 
 -- a fault
 pub fault_settled : (nets : List Bool) (n : ℕ) (gs : List Gate) → gates_ordered n gs ≡ true → n + length gs ≤ length nets → (a : ℕ) → 0 < a → a < 2 * (n + length gs) + 1 →
@@ -82,10 +74,10 @@ fault_settled nets n gs o room a h l =
     let net : ℕ = (a - 1) / 2 in
     let v : Bool = eqb (a % 2) 0 in
     let k : ℕ = net + 1 - n in
-    let up_to : List Bool = passed_part nets n gs 0 k in
+    let up_to : List Bool = passed nets n (take k gs) in
     let few : k ≤ length gs = omega arith in
     let count : length (take n nets) ≡ n = length-take-le n nets (omega arith) in
-    let kept : n + length gs ≤ length (set up_to net v) = omega (arith, length-set up_to net v, length_passed nets (n + 0) (take (k - 0) gs)) in
+    let kept : n + length gs ≤ length (set up_to net v) = omega (arith, length-set up_to net v, length_passed nets n (take k gs)) in
     let split : with_gates a (held_from a 0 (take n nets)) gs ≡ with_gates 0 (set (with_gates 0 (take n nets) (take k gs)) net v) (drop k gs) =
     subst (λ (m : ℕ). with_gates a (held_from a 0 (take n nets)) gs ≡ with_gates 0 (set (with_gates 0 (take n nets) (take (net + 1 - m) gs)) net v) (drop (net + 1 - m) gs)) count
     (stuck_evaluated a net v (held_here a h) (held_other a h) (take n nets) gs (omega arith)) in

@@ -30,12 +30,12 @@ idle = record {
 
 -- how many nets a gate device has
 abbrev pub nets_of : Gates → ℕ
-nets_of g = net_count g.pins g.gates.now g.loads.now
+nets_of g = net_count g.pins.count g.gates.now g.loads.now
 
 -- the values of its nets
 abbrev pub values_of : Gates → ℕ → ℕ → ℕ → List Bool
-values_of g a q l = net_values g.pins (length g.loads.now) g.gates.now a q l
+values_of g a q l = net_values g.pins.count (length g.loads.now) g.gates.now a q l
 
 -- what it means
 abbrev pub machine_of : Gates → Machine
-machine_of g = gates_machine g.pins g.reset g.gates.now g.loads.now g.outputs.now
+machine_of g = gates_machine g.pins.count g.reset g.gates.now g.loads.now g.outputs.now

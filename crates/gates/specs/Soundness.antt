@@ -18,8 +18,8 @@ pub gates_sound : (g : Gates) → Sound (machine_of g)
 gates_sound g = record {
   some_member = omega arith;
   few_members = omega (arith, g.few_nets);
-  some_letter = omega (arith, pow_pos g.pins);
-  few_letters = pow_mono g.few_pins;
+  some_letter = omega (arith, pow_pos g.pins.count);
+  few_letters = pow_mono g.pins.few;
   some_state = omega (arith, pow_pos (length g.loads.now));
   few_states = pow_mono g.few_loads;
   reset_inside = λ a h. g.reset_inside;

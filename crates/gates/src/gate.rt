@@ -2,7 +2,7 @@ ghost use Rattle.std.specs.Prelude.{◌≡◌};
 ghost use Rattle.gates.specs.Kinds.{gate_value, truth_table};
 
 // What a gate makes of the two values that it reads.
-#[derive(Clone, Copy, PartialEq, Eq, Debug)]
+#[derive(Clone, Copy, PartialEq, Eq, PartialOrd, Ord, Hash, Debug)]
 pub enum Kind {
     And,
     Or,
@@ -15,7 +15,7 @@ pub enum Kind {
 }
 
 // A gate and the nets that it reads: two, or for Not and Buff one and the same.
-#[derive(Clone, Copy, PartialEq, Eq, Debug)]
+#[derive(Clone, Copy, PartialEq, Eq, PartialOrd, Ord, Hash, Debug)]
 pub struct Gate {
     pub kind: Kind,
     pub left: u16,
@@ -23,6 +23,8 @@ pub struct Gate {
 }
 
 impl Kind {
+    ghost use Rattle.gates.specs.Rules.{two_inputs};
+
     // The truth table: bit 2 * x + y is the value at x and y.
     fn table(self) -> u8
         ensures { result ≡ truth_table self }
@@ -44,5 +46,25 @@ impl Kind {
         ensures { result ≡ gate_value self x y }
     {
         self.table() >> (2 * x as u8 + y as u8) & 1 == 1
+    }
+
+    // Whether a gate of this kind may read two nets.
+    fn has_two_inputs(self) -> bool
+        ensures { result ≡ two_inputs self }
+    {
+        !matches!(self, Kind::Not | Kind::Buff)
+    }
+}
+
+impl Gate {
+    ghost use Rattle.gates.specs.Rules.{gate_ordered};
+
+    // Whether the gate of this net reads nets of lower numbers, and one alone if its kind asks for that.
+    pub(crate) fn is_ordered(&self, net: usize) -> bool
+        ensures { result ≡ gate_ordered net self.now }
+    {
+        (self.left as usize) < net
+            && (self.right as usize) < net
+            && (self.kind.has_two_inputs() || self.left == self.right)
     }
 }

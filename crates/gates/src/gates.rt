@@ -2,6 +2,7 @@ ghost use Rattle.std.specs.Prelude.{◌≡◌, ◌+◌, ◌^◌, ◌<◌, ◌≤
 ghost use Rattle.gates.specs.Rules.{net_count, gates_ordered, name_nets};
 
 use crate::gate::Gate;
+use machine::Pins;
 
 mod device;
 mod idle;
@@ -15,14 +16,13 @@ pub struct Gates<'a> {
     gates: &'a [Gate],
     loads: &'a [u16],
     outputs: &'a [u16],
-    pins: u8,
+    pins: Pins,
     reset: u16,
-    ghost few_pins: { pins ≤ 6 },
     ghost few_loads: { length loads.now ≤ 8 },
     ghost few_outputs: { length outputs.now ≤ 32 },
-    ghost few_nets: { net_count pins gates.now loads.now ≤ 512 },
+    ghost few_nets: { net_count pins.count gates.now loads.now ≤ 512 },
     ghost reset_inside: { reset < 2 ^ length loads.now },
-    ghost in_order: { gates_ordered (pins + length loads.now) gates.now ≡ true },
-    ghost loads_inside: { name_nets (net_count pins gates.now loads.now) loads.now ≡ true },
-    ghost outputs_inside: { name_nets (net_count pins gates.now loads.now) outputs.now ≡ true },
+    ghost in_order: { gates_ordered (pins.count + length loads.now) gates.now ≡ true },
+    ghost loads_inside: { name_nets (net_count pins.count gates.now loads.now) loads.now ≡ true },
+    ghost outputs_inside: { name_nets (net_count pins.count gates.now loads.now) outputs.now ≡ true },
 }

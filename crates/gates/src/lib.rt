@@ -4,7 +4,9 @@
 mod gate;
 mod gates;
 mod nets;
+mod pass;
 mod rules;
+mod stuck_at;
 
 pub use gate::{Gate, Kind};
 pub use gates::Gates;

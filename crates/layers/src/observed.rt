@@ -14,12 +14,14 @@ pub struct Observed<D> {
 
 impl<D> Observed<D> {
     pub fn new(below: D, mask: u32) -> Observed<D>
-        ensures { (result.below ≡ below) × (result.mask ≡ mask) }
+        ensures below { result.below ≡ below }
+        ensures mask { result.mask ≡ mask }
     {
         Observed { below, mask }
     }
 }
 
+// The methods that a layer passes on are written out: an impl by a macro is refused.
 impl<D: Device> Device for Observed<D> {
     ghost meaning = { λ o. observed o.mask (D.Device.meaning o.below) };
 

@@ -3,7 +3,7 @@ ghost use Rattle.machine.specs.Machines.{Machine};
 ghost use Rattle.layers.specs.Layers.{rivals};
 ghost use Rattle.layers.specs.Soundness.{rivals_sound};
 
-use machine::Device;
+use machine::{Device, within};
 
 // The good machines of two devices, side by side: member 0 is that of the first, member 1 that of the second.
 #[derive(Clone, Copy)]
@@ -14,7 +14,8 @@ pub struct Rivals<A, B> {
 
 impl<A, B> Rivals<A, B> {
     pub fn new(first: A, second: B) -> Rivals<A, B>
-        ensures { (result.first ≡ first) × (result.second ≡ second) }
+        ensures first { result.first ≡ first }
+        ensures second { result.second ≡ second }
     {
         Rivals { first, second }
     }
@@ -38,20 +39,17 @@ impl<A: Device, B: Device> Device for Rivals<A, B> {
     }
 
     fn reset(&self, member: u16) -> u16 {
-        if member == 1 {
-            self.second.reset(0)
-        } else {
-            self.first.reset(0)
+        match member {
+            1 => self.second.reset(0),
+            _ => self.first.reset(0),
         }
     }
 
     fn step(&self, member: u16, state: u16, letter: u8) -> (u16, u32) {
-        let member = if member < 2 { member } else { 0 };
-        let letter = if letter < self.letters() { letter } else { 0 };
-        if member == 0 {
-            self.first.step(0, state, letter)
-        } else {
-            self.second.step(0, state, letter)
+        let letter = within(self.letters(), letter);
+        match member {
+            1 => self.second.step(0, state, letter),
+            _ => self.first.step(0, state, letter),
         }
     }
 }

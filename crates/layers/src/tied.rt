@@ -3,7 +3,7 @@ ghost use Rattle.machine.specs.Machines.{Machine};
 ghost use Rattle.layers.specs.Layers.{tied};
 ghost use Rattle.layers.specs.Soundness.{tied_sound};
 
-use machine::Device;
+use machine::{Device, within};
 
 // A device with pins tied: only the pins of keep follow the letter, and those of the value are 1.
 #[derive(Clone, Copy)]
@@ -15,7 +15,9 @@ pub struct Tied<D> {
 
 impl<D> Tied<D> {
     pub fn new(below: D, keep: u8, value: u8) -> Tied<D>
-        ensures { (result.below ≡ below) × ((result.keep ≡ keep) × (result.value ≡ value)) }
+        ensures below { result.below ≡ below }
+        ensures keep { result.keep ≡ keep }
+        ensures value { result.value ≡ value }
     {
         Tied { below, keep, value }
     }
@@ -43,11 +45,7 @@ impl<D: Device> Device for Tied<D> {
     }
 
     fn step(&self, member: u16, state: u16, letter: u8) -> (u16, u32) {
-        let letter = if letter < self.below.letters() {
-            letter
-        } else {
-            0
-        };
+        let letter = within(self.below.letters(), letter);
         self.below
             .step(member, state, letter & self.keep | self.value)
     }

@@ -2,6 +2,7 @@ ghost use Rattle.std.specs.Prelude.{◌≡◌};
 ghost use Rattle.gates.specs.GateLists.{idle, machine_of};
 
 use crate::gates::Gates;
+use machine::Pins;
 
 impl<'a> Gates<'a> {
     // The idle device, which has no nets: one member, one letter, one state and output 0.
@@ -12,7 +13,7 @@ impl<'a> Gates<'a> {
             gates: &[],
             loads: &[],
             outputs: &[],
-            pins: 0,
+            pins: Pins::NONE,
             reset: 0,
         }
     }

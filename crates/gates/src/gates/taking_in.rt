@@ -3,8 +3,9 @@ ghost use Rattle.gates.specs.TakingIn.{TakenIn};
 use crate::gate::Gate;
 use crate::gates::Gates;
 use crate::gates::device::state_count;
+use crate::nets::MOST_NETS;
 use crate::rules::{gates_ordered, name_nets};
-use machine::Refusal;
+use machine::{Pins, Refusal};
 
 impl<'a> Gates<'a> {
     // Replaces the device by a gate list, or refuses it and changes nothing.
@@ -18,18 +19,14 @@ impl<'a> Gates<'a> {
     ) -> Result<(), Refusal>
         ensures { TakenIn pins reset gates.now loads.now outputs.now self.old self.new result }
     {
-        if pins < 1
-            || pins > 6
-            || loads.len() > 8
-            || outputs.len() < 1
-            || outputs.len() > 32
-            || pins as usize + loads.len() + gates.len() > 512
-        {
+        let pins = Pins::try_from(pins)?;
+        if loads.len() > 8 || outputs.is_empty() || outputs.len() > 32 {
             return Err(Refusal::OutsideDeviceRules);
         }
-        let first = pins as usize + loads.len();
+        let first = pins.count as usize + loads.len();
         let nets = first + gates.len();
-        if reset >= state_count(loads.len())
+        if nets > MOST_NETS
+            || reset >= state_count(loads.len())
             || !gates_ordered(first, gates)
             || !name_nets(nets, loads)
             || !name_nets(nets, outputs)

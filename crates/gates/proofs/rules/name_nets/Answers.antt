@@ -1,12 +1,11 @@
-use Rattle.std.proofs.Common.{sym, ◌∙◌}
-use Rattle.gates.proofs.Checking.{names_more, names_stop, names_end}
+use borrow.Author.Tests.{tests}
+use Rattle.std.proofs.Common.{rules, ltb, ◌∙◌}
+use Rattle.std.proofs.lemmas.Iterator.{YieldsList-from_slice}
+use Rattle.std.proofs.lemmas.Iterator.Search.{all_from_yields_List}
+use Rattle.gates.proofs.Checking.{all_named}
 use Rattle.gates.proofs.rules.name_nets.Goals as goal
 
-pub returns-then-not-names_net : goal.returns-then-not-names_net
-returns-then-not-names_net c = sym (names_stop c.args.count c.args.numbers.now c.loop-number.number-index c.loop-number-test.true (sym c.if-not-names_net.ensures)) ∙ c.loop-number.invariant
-
-pub loop-number-preserved : goal.loop-number-preserved
-loop-number-preserved c = names_more c.args.count c.args.numbers.now c.loop-number.number-index c.loop-number-test.true (sym c.if-not-names_net.ensures) ∙ c.loop-number.invariant
-
 pub returns : goal.returns
-returns c = sym (names_end c.args.count c.args.numbers.now c.loop-number.number-index c.loop-number-test.false) ∙ c.loop-number.invariant
+returns c =
+    all_from_yields_List (λ k. ltb k c.args.count) _ _ _ c.all.ensures.ran (YieldsList-from_slice c.args.numbers.now cc) (λ x b q k. search (rules, tests))
+    ∙ all_named c.args.count c.args.numbers.now
