@@ -125,7 +125,7 @@ module _ {P : Type 0} {g : Graph P} {Inside : P → Type 0} {xs : List (Visit P)
       more (inr y) = inr (y.0, y.1, y.2, y.3, at_most_longer (path xs y.0 ++ y.1 ∷ []) s i y.4)
 
   none_some : (p : P) → None ≡ Some p → ⊥
-  none_some p y = let z : ◌≡◌ {A = ℕ} 0 1 = cc in omega arith
+  none_some p y = cc
 
   -- where the pair at hand meets the goal, no sequence that meets it stands before its own
   pub goal_least : h < n → {t : List ℕ} → Meets g t → AtMost (path xs h ++ l ∷ []) t
@@ -161,7 +161,7 @@ module _ {P : Type 0} {g : Graph P} {Inside : P → Type 0} {xs : List (Visit P)
       let b = x.1 in
       let v = inv.expanded x.0 i a (omega arith, λ y. absurd (omega arith)) in
       let same : None ≡ Some (visit g xs v.0).position = sym e ∙ ap (λ (u : P). g.step u i) (sym x.2) ∙ v.2 in
-      let z : ◌≡◌ {A = ℕ} 0 1 = cc in omega arith
+      none_some _ same
 
   pub path_least : n ≤ h → (k : ℕ) → k < n → {t : List ℕ} → Reach g t (visit g xs k).position → AtMost (path xs k) t
   path_least o k b {t} r = let x = all_covered o r in subst (λ (j : ℕ). AtMost (path xs j) t) (apart x.0 k x.1 b x.2) x.3

@@ -1,64 +1,48 @@
 -- Of different numbers below n there are at most n.
-use Rattle.std.proofs.Common.{◌≡◌, ℕ, zero, suc, ◌<◌, ◌≤◌, cond, eqb, ◌⊎◌, sym, ap, ◌∙◌, inl, inr, arith}
-use Rattle.std.proofs.lemmas.Bool.{cases_lt, cases_eq, cond-true, cond-false, eq-eqb, ne_eqb}
+use Rattle.std.proofs.Common.{◌≡◌, ℕ, zero, suc, ◌<◌, ◌≤◌, eqb, true, false, ◌⊎◌, List, [], ◌∷◌, length, inl, inr, refl, ap, arith}
+use Rattle.std.proofs.lemmas.Bool.{eqb-true, ne_eqb, or_cases}
+use Rattle.std.proofs.lemmas.Map.Steps.{length-le_from_distinct_below}
+use Rattle.std.specs.List.{AllByRecursion, IsDistinct, list_any}
 
--- is the number among the first m?
-seek : (f : ℕ → ℕ) (x m : ℕ) → ((k : ℕ) × (k < m) × (f k ≡ x)) ⊎ ((k : ℕ) → k < m → f k ≡ x → ⊥)
-seek f x zero = inr (λ k b. absurd (omega arith))
-seek f x (suc m) = go (cases_eq (f m) x) (seek f x m)
+-- the first m numbers, the last in front
+firsts : (ℕ → ℕ) → ℕ → List ℕ
+firsts f zero = []
+firsts f (suc m) = f m ∷ firsts f m
+
+length-firsts : (f : ℕ → ℕ) (m : ℕ) → length (firsts f m) ≡ m
+unfolding firsts
+length-firsts f zero = refl
+length-firsts f (suc m) = ap suc (length-firsts f m)
+
+others : (f : ℕ → ℕ) (x m : ℕ) → ((k : ℕ) → k < m → x ≡ f k → ⊥) → AllByRecursion (λ y. eqb x y ≡ false) (firsts f m)
+unfolding firsts
+others f x zero h = tt
+others f x (suc m) h = (ne_eqb x (f m) (h m (omega arith)), others f x m (λ k b. h k (omega arith)))
+
+distinct : (f : ℕ → ℕ) (m : ℕ) → ((i j : ℕ) → i < m → j < m → f i ≡ f j → i ≡ j) → IsDistinct eqb (firsts f m)
+unfolding firsts IsDistinct
+distinct f zero apart = tt
+distinct f (suc m) apart =
+    (others f (f m) m (λ k b e. let same = apart m k (omega arith) (omega arith) e in omega arith), distinct f m (λ i j a b. apart i j (omega arith) (omega arith)))
+
+under : (f : ℕ → ℕ) (n m : ℕ) → ((k : ℕ) → k < m → f k < n) → (q : ℕ) → list_any (eqb q) (firsts f m) ≡ true → q < n
+unfolding firsts
+under f n zero below q h = absurd (cc)
+under f n (suc m) below q h = go (or_cases _ _ h) (under f n m (λ k b. below k (omega arith)) q)
   where
-    go : (f m ≡ x) ⊎ (f m ≡ x → ⊥) → ((k : ℕ) × (k < m) × (f k ≡ x)) ⊎ ((k : ℕ) → k < m → f k ≡ x → ⊥) → ((k : ℕ) × (k < suc m) × (f k ≡ x)) ⊎ ((k : ℕ) → k < suc m → f k ≡ x → ⊥)
-    go (inl e) _ = inl (m, omega arith, e)
-    go (inr e) (inl y) = let b = y.1 in inl (y.0, omega arith, y.2)
-    go (inr e) (inr y) = inr (λ k b. each k b (cases_lt k m))
-      where
-        each : (k : ℕ) → k < suc m → (k < m) ⊎ (m ≤ k) → f k ≡ x → ⊥
-        each k b (inl c) = y k c
-        each k b (inr c) = λ z. let s : m ≡ k = omega arith in e (ap f s ∙ z)
+    go : (eqb q (f m) ≡ true) ⊎ (list_any (eqb q) (firsts f m) ≡ true) → (list_any (eqb q) (firsts f m) ≡ true → q < n) → q < n
+    go (inl e) ih = omega (arith, eqb-true q (f m) e, below m (omega arith))
+    go (inr e) ih = ih e
 
--- the place k is given the value of the place m
-swap : (ℕ → ℕ) → ℕ → ℕ → ℕ → ℕ
-swap f k m x = cond (eqb x k) (f m) (f x)
-
-swap_at : (f : ℕ → ℕ) (k m x : ℕ) → x ≡ k → swap f k m x ≡ f m
-unfolding swap
-swap_at f k m x e = cond-true (eqb x k) (f m) (f x) (eq-eqb x k e)
-
-swap_off : (f : ℕ → ℕ) (k m x : ℕ) → (x ≡ k → ⊥) → swap f k m x ≡ f x
-unfolding swap
-swap_off f k m x e = cond-false (eqb x k) (f m) (f x) (ne_eqb x k e)
-
-abbrev Room : ℕ → ℕ → (ℕ → ℕ) → Type 0
-Room n w u = ((k : ℕ) → k < w → u k < n) → ((i j : ℕ) → i < w → j < w → u i ≡ u j → i ≡ j) → w ≤ n
-
--- By induction on n: leave out the place whose number is n, and put the last there.
 pub pigeonhole : (n m : ℕ) (f : ℕ → ℕ) → ((k : ℕ) → k < m → f k < n) → ((i j : ℕ) → i < m → j < m → f i ≡ f j → i ≡ j) → m ≤ n
-pigeonhole zero zero f below apart = omega arith
-pigeonhole zero (suc m) f below apart = absurd (omega (arith, below 0 (omega arith)))
-pigeonhole (suc n) zero f below apart = omega arith
-pigeonhole (suc n) (suc m) f below apart = go (seek f n (suc m)) (pigeonhole n (suc m) f) (λ k. pigeonhole n m (swap f k m))
+pigeonhole n m f below apart = omega (arith, length-le_from_distinct_below (firsts f m) n (distinct f m apart) (under f n m below), length-firsts f m)
+
+-- with another number below n there are fewer
+pub pigeonhole_more : (n m : ℕ) (f : ℕ → ℕ) (x : ℕ) → ((k : ℕ) → k < m → f k < n) → ((i j : ℕ) → i < m → j < m → f i ≡ f j → i ≡ j) → x < n → ((k : ℕ) → k < m → x ≡ f k → ⊥) → m < n
+unfolding IsDistinct
+pigeonhole_more n m f x below apart low fresh =
+    omega (arith, length-le_from_distinct_below (x ∷ firsts f m) n (others f x m fresh, distinct f m apart) (λ q h. go q (or_cases _ _ h)), length-firsts f m)
   where
-    down : (x : ℕ) → x < suc n → (x ≡ n → ⊥) → x < n
-    down x b e = omega arith
-
-    swapped_below : (k : ℕ) → k < suc m → f k ≡ n → (x : ℕ) → x < m → (x ≡ k) ⊎ (x ≡ k → ⊥) → swap f k m x < n
-    swapped_below k b e x c (inl d) =
-        let v = swap_at f k m x d in
-        let w = down (f m) (below m (omega arith)) (λ z. let y = apart m k (omega arith) b (z ∙ sym e) in omega arith) in
-        omega arith
-    swapped_below k b e x c (inr d) =
-        let v = swap_off f k m x d in
-        let w = down (f x) (below x (omega arith)) (λ z. d (apart x k (omega arith) b (z ∙ sym e))) in
-        omega arith
-
-    swapped_apart : (k : ℕ) → (i j : ℕ) → i < m → j < m → (i ≡ k) ⊎ (i ≡ k → ⊥) → (j ≡ k) ⊎ (j ≡ k → ⊥) → swap f k m i ≡ swap f k m j → i ≡ j
-    swapped_apart k i j a b (inl c) (inl d) z = c ∙ sym d
-    swapped_apart k i j a b (inl c) (inr d) z = let y = apart m j (omega arith) (omega arith) (sym (swap_at f k m i c) ∙ z ∙ swap_off f k m j d) in absurd (omega arith)
-    swapped_apart k i j a b (inr c) (inl d) z = let y = apart i m (omega arith) (omega arith) (sym (swap_off f k m i c) ∙ z ∙ swap_at f k m j d) in absurd (omega arith)
-    swapped_apart k i j a b (inr c) (inr d) z = apart i j (omega arith) (omega arith) (sym (swap_off f k m i c) ∙ z ∙ swap_off f k m j d)
-
-    go : ((k : ℕ) × (k < suc m) × (f k ≡ n)) ⊎ ((k : ℕ) → k < suc m → f k ≡ n → ⊥) → Room n (suc m) f → ((k : ℕ) → Room n m (swap f k m)) → suc m ≤ suc n
-    go (inl y) all less =
-        let r = less y.0 (λ x c. swapped_below y.0 y.1 y.2 x c (cases_eq x y.0)) (λ i j a b z. swapped_apart y.0 i j a b (cases_eq i y.0) (cases_eq j y.0) z) in
-        omega arith
-    go (inr y) all less = let r = all (λ k b. down (f k) (below k b) (y k b)) apart in omega arith
+    go : (q : ℕ) → (eqb q x ≡ true) ⊎ (list_any (eqb q) (firsts f m) ≡ true) → q < n
+    go q (inl e) = omega (arith, eqb-true q x e)
+    go q (inr e) = under f n m below q e

@@ -44,7 +44,7 @@ module _ {P : Type 0} (g : Graph P) where
   meets_run (met {s = s} {p = p} {l = l} r c e) = run_push g.start s l ∙ ap (λ (o : Option P). and_then o (λ q. g.step q l)) (reach_run r) ∙ e
 
   none_some : {A : Type 0} (q : P) → None ≡ Some q → A
-  none_some q e = absurd (let z : ◌≡◌ {A = ℕ} 0 1 = cc in omega arith)
+  none_some q e = absurd (cc)
 
   -- a run that goes on from a reached position
   run_reach : (s u : List ℕ) (p q : P) → Reach g u p → Letters g.letters s → run g p s ≡ Some q → Reach g (u ++ s) q

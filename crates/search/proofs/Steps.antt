@@ -1,8 +1,8 @@
 -- One step of the search keeps what it knows of its visits.
-use Rattle.std.proofs.Common.{◌≡◌, ℕ, suc, ◌+◌, ◌<◌, ◌≤◌, cond, ltb, ◌≢◌, ◌⊎◌, List, length, get_or, set, Some, sym, ap, ◌∙◌, subst, inl, inr, arith}
+use Rattle.std.proofs.Common.{◌≡◌, ℕ, ◌+◌, ◌<◌, ◌≤◌, ◌≢◌, ◌⊎◌, List, length, get_or, set, Some, sym, ap, ◌∙◌, subst, inl, inr, arith}
 use Rattle.std.proofs.lemmas.List.{get_or-set_same, get_or-set_other}
-use Rattle.std.proofs.lemmas.Bool.{cases_lt, cases_order, cases_eq, cond-true, cond-false, lt-ltb, le-ltb}
-use Rattle.search.proofs.Pigeonhole.{pigeonhole}
+use Rattle.std.proofs.lemmas.Bool.{cases_lt, cases_order, cases_eq}
+use Rattle.search.proofs.Pigeonhole.{pigeonhole, pigeonhole_more}
 use Rattle.search.specs.Graphs.{Graph, Sound}
 use Rattle.search.specs.Visits.{root, visit, Earlier, Led, Searched}
 use Rattle.search.specs.declared.visit.Visit.{Visit}
@@ -129,34 +129,23 @@ module _ {P : Type 0} {g : Graph P} {Inside : P → Type 0} {xs : List (Visit P)
             let eq : g.step (visit g ys j).position i ≡ Some (visit g ys n).position = ap (λ (x : ℕ). g.step (visit g ys x).position i) s ∙ ap (λ (x : ℕ). g.step (visit g ys h).position x) t ∙ ap (λ (v : Visit P). g.step v.position l) (old h b) ∙ e ∙ ap (λ (v : Visit P). Some v.position) (sym at_new) in
             (n, omega arith, eq, λ d. subst (λ (v : Visit P). Earlier v.from v.letter j (i + 1)) (sym at_new) (omega arith, λ _. omega arith))
 
--- there are no more visits than numbers
-pub few_visits : {P : Type 0} {g : Graph P} {Inside : P → Type 0} {xs : List (Visit P)} {marks : List ℕ} {n h l : ℕ} → Searched g Inside xs marks n h l → Sound g Inside → n ≤ g.count
-few_visits {g = g} {xs = xs} {marks = marks} {n = n} inv sound = pigeonhole g.count n (λ k. g.number (visit g xs k).position) (λ k b. sound.number_below _ (inv.entered.inside k b)) (λ i j a b e. sym (inv.entered.marked i a) ∙ ap (λ (x : ℕ). get_or marks x 0) e ∙ inv.entered.marked j b)
+module _ {P : Type 0} {g : Graph P} {Inside : P → Type 0} {xs : List (Visit P)} {marks : List ℕ} {n h l : ℕ} (inv : Searched g Inside xs marks n h l) (sound : Sound g Inside) where
+  number_of : ℕ → ℕ
+  number_of k = g.number (visit g xs k).position
 
--- there is room for a new position
-module _ {P : Type 0} {g : Graph P} {Inside : P → Type 0} {xs : List (Visit P)} {marks : List ℕ} {n h l : ℕ} (inv : Searched g Inside xs marks n h l) (sound : Sound g Inside) (q : P) (q_is : Inside q) (fresh : (k : ℕ) → k < n → (visit g xs k).position ≡ q → ⊥) where
-  numbers : ℕ → ℕ
-  numbers k = cond (ltb k n) (g.number (visit g xs k).position) (g.number q)
+  below : (k : ℕ) → k < n → number_of k < g.count
+  unfolding number_of
+  below k b = sound.number_below _ (inv.entered.inside k b)
 
-  numbers_old : (k : ℕ) → k < n → numbers k ≡ g.number (visit g xs k).position
-  unfolding numbers
-  numbers_old k b = cond-true (ltb k n) _ _ (lt-ltb k n b)
+  apart : (i j : ℕ) → i < n → j < n → number_of i ≡ number_of j → i ≡ j
+  unfolding number_of
+  apart i j a b e = sym (inv.entered.marked i a) ∙ ap (λ (x : ℕ). get_or marks x 0) e ∙ inv.entered.marked j b
 
-  numbers_new : (k : ℕ) → n ≤ k → numbers k ≡ g.number q
-  unfolding numbers
-  numbers_new k b = cond-false (ltb k n) _ _ (le-ltb k n b)
+  -- there are no more visits than numbers
+  pub few_visits : n ≤ g.count
+  few_visits = pigeonhole g.count n number_of below apart
 
-  pub room_for : n < g.count
-  room_for = let r = pigeonhole g.count (suc n) numbers (λ k b. low k b (cases_lt k n)) (λ i j a b e. same i j a b (cases_lt i n) (cases_lt j n) e) in omega arith
-    where
-      low : (k : ℕ) → k < suc n → (k < n) ⊎ (n ≤ k) → numbers k < g.count
-      low k b (inl c) = let s = sound.number_below _ (inv.entered.inside k c) in let e = numbers_old k c in omega arith
-      low k b (inr c) = let s = sound.number_below _ q_is in let e = numbers_new k c in omega arith
-
-      same : (i j : ℕ) → i < suc n → j < suc n → (i < n) ⊎ (n ≤ i) → (j < n) ⊎ (n ≤ j) → numbers i ≡ numbers j → i ≡ j
-      same i j a b (inl c) (inl d) e =
-          let w = sound.number_same _ _ (inv.entered.inside i c) (inv.entered.inside j d) (sym (numbers_old i c) ∙ e ∙ numbers_old j d) in
-          sym (inv.entered.marked i c) ∙ ap (λ (p : P). get_or marks (g.number p) 0) w ∙ inv.entered.marked j d
-      same i j a b (inl c) (inr d) e = absurd (fresh i c (sound.number_same _ _ (inv.entered.inside i c) q_is (sym (numbers_old i c) ∙ e ∙ numbers_new j d)))
-      same i j a b (inr c) (inl d) e = absurd (fresh j d (sound.number_same _ _ (inv.entered.inside j d) q_is (sym (numbers_old j d) ∙ sym e ∙ numbers_new i c)))
-      same i j a b (inr c) (inr d) e = omega arith
+  -- there is room for a new position
+  pub room_for : (q : P) → Inside q → ((k : ℕ) → k < n → (visit g xs k).position ≡ q → ⊥) → n < g.count
+  unfolding number_of
+  room_for q q_is fresh = pigeonhole_more g.count n number_of (g.number q) below apart (sound.number_below _ q_is) (λ k b e. fresh k b (sound.number_same _ _ (inv.entered.inside k b) q_is (sym e)))

@@ -1,4 +1,4 @@
-ghost use Rattle.std.specs.Prelude.{◌≡◌, ℕ, ◌+◌, ◌<◌, ◌≤◌, [], ◌∷◌, ◌++◌, length};
+ghost use Rattle.std.specs.Prelude.{◌≡◌, ℕ, ◌+◌, ◌<◌, [], ◌∷◌, ◌++◌, length};
 ghost use Rattle.search.specs.Answers.{Written};
 ghost use Rattle.search.specs.Visits.{path, Chained};
 
@@ -7,15 +7,13 @@ use super::search_error::SearchError;
 use super::visit::Visit;
 
 // Writes the letters that lead to the visit and then one more, from the last to the first.
-fn write_back<P: Copy>(visits: &[Visit<P>], at: usize, last: u8, out: &mut [u8])
-    requires inside { at < length visits.now }
-    requires chained { Chained visits.now (at + 1) }
-    requires fits { length out.old ≡ length (path visits.now at) + 1 }
-    ensures { out.new ≡ path visits.now at ++ last ∷ [] }
+fn write_back<P: Copy>(links: BackLinks<P>, last: u8, out: &mut [u8])
+    requires { length out.old ≡ length (path links.visits.now links.at) + 1 }
+    ensures { out.new ≡ path links.entry.visits.now links.entry.at ++ last ∷ [] }
 {
     let mut place = out.len() - 1;
     out[place] = last;
-    for letter in (BackLinks { visits, at }) {
+    for letter in links {
         place -= 1;
         out[place] = letter;
     }
@@ -36,6 +34,7 @@ pub(crate) fn write_path<P: Copy>(
     if answer.len() < length {
         return Err(SearchError::AnswerTooShort);
     }
-    write_back(visits, at, last, &mut answer[0..length]);
+    let links = BackLinks { visits, at };
+    write_back(links, last, &mut answer[0..length]);
     Ok(length)
 }

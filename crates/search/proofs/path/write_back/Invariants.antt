@@ -6,4 +6,4 @@ abbrev pub invariant-loop-letter : goal.invariant-loop-letter
 invariant-loop-letter g l =
     (l.place < length l.out)
     × (l.place ≡ length (path l.letter-iterator.visits.now l.letter-iterator.at))
-    × (path l.letter-iterator.visits.now l.letter-iterator.at ++ drop l.place l.out ≡ path l.visits l.at ++ l.last ∷ [])
+    × (path l.letter-iterator.visits.now l.letter-iterator.at ++ drop l.place l.out ≡ path l.links.visits.now l.links.at ++ l.last ∷ [])

@@ -18,7 +18,7 @@ count-length-requires-clause-fits g c = inl (omega (arith, length-reverse (path 
 pub overflow_add-length : goal.overflow_add-length
 overflow_add-length g c = omega (arith, counted g (goal.at.overflow_add-length g c).After-count-length, path_short c.args.visits.now c.args.at)
 
-pub write_back-requires-clause-fits : goal.write_back-requires-clause-fits
-write_back-requires-clause-fits g c =
-    let n = counted g (goal.at.write_back-requires-clause-fits g c).After-count-length in
+pub write_back-requires : goal.write_back-requires
+write_back-requires g c =
+    let n = counted g (goal.at.write_back-requires g c).After-count-length in
     omega (arith, length-take-le (c.count-length.result + 1) c.args.answer.now (omega arith))
