@@ -48,6 +48,7 @@ fn write_refusal(out: &mut Writer, refusal: Refusal, side: Option<Side>, line: u
 }
 
 impl Outcome<'_> {
+    // Writes the report. It is no `Display`, since the bytes of a name need not be UTF-8.
     fn write(&self, out: &mut Writer)
         ensures { Adds (rendering (told self.now)) out.old out.new }
     {

@@ -31,6 +31,7 @@ impl<'a> Writer<'a> {
         if self.count < self.out.len() {
             self.out[self.count] = byte;
         }
+        // A count that stays at the largest is past the end of every slice.
         self.count = self.count.saturating_add(1);
     }
 

@@ -12,8 +12,3 @@ pub returns-in-Err-read : goal.returns-in-Err-read
 returns-in-Err-read c =
     let e = c.in-Err-read.e in
     (refused e.refusal (Some Faulty) e.line, rw (c.in-Ok.ensures.held, c.in-Err-read.ensures.refused) refl, c.refuse-in-Err-read.ensures)
-
-pub returns : goal.returns
-returns c =
-    let h = c.report.ensures in
-    (h.0, rw (c.in-Ok.ensures.held, c.in-Ok-read.ensures.held, ← c.in-Ok.ensures.text, ← c.in-Ok-read.ensures.text) h.1, h.2)
