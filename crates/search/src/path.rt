@@ -11,10 +11,9 @@ fn write_back<P: Copy>(links: BackLinks<P>, last: u8, out: &mut [u8])
     requires { length out.old ≡ length (path links.visits.now links.at) + 1 }
     ensures { out.new ≡ path links.entry.visits.now links.entry.at ++ last ∷ [] }
 {
-    let mut place = out.len() - 1;
-    out[place] = last;
-    for letter in links {
-        place -= 1;
+    let end = out.len() - 1;
+    out[end] = last;
+    for (place, letter) in (0..end).rev().zip(links) {
         out[place] = letter;
     }
 }

@@ -1,4 +1,4 @@
-ghost use Rattle.std.specs.Prelude.{◌≡◌, ℕ, ◌+◌, ◌<◌, ◌≤◌, length, IfSome, IfNone, OnSome, slice_index_or, slice_set};
+ghost use Rattle.std.specs.Prelude.{◌≡◌, ℕ, ◌+◌, ◌<◌, ◌≤◌, length, IfSome, IfNone, OnSome, Some, slice_get, slice_set};
 
 // First in, first out, over a lent slice. What was taken out stays readable in its place.
 #[derive(Drop)]
@@ -44,7 +44,7 @@ impl<'a, V: Copy> Worklist<'a, V> {
 
     pub(crate) fn get(&self, index: usize) -> V
         requires { index < self.now.tail }
-        ensures { (d : V) → result ≡ slice_index_or self.now.items.now index d }
+        ensures { slice_get self.now.items.now index ≡ Some result }
     {
         let items: &[V] = &*self.items;
         items[index]

@@ -1,4 +1,5 @@
 use Rattle.std.proofs.Common.{◌≡◌, ◌<◌, Some, sym, ap, ◌∙◌, arith}
+use Rattle.std.proofs.lemmas.Option.{get_or_from_slice_get}
 use Rattle.search.specs.Searches.{step_at}
 use Rattle.search.specs.Visits.{root}
 use Rattle.search.proofs.Steps.{known_step, new_step, room_for}
@@ -9,7 +10,7 @@ use Rattle.search.proofs.breadth_first.Search.try_letter.Goals.{In-Some, Then-no
 leads : (g : Over) (c : In-Some g) → step_at c.args.self.now c.args.list.now c.args.at c.args.letter ≡ Some c.in-Some.position
 leads g c =
     let w = g.W.Walk.graph c.args.self.now.walk.now in
-    ap (λ v. w.step v.position c.args.letter) (sym (c.get-here.ensures (root w))) ∙ sym c.in-Some.ensures
+    ap (λ v. w.step v.position c.args.letter) (get_or_from_slice_get c.args.list.now.items.now c.args.at c.get-here.result (root w) c.get-here.ensures) ∙ sym c.in-Some.ensures
 
 inside : (g : Over) (c : In-Some g) → g.W.Walk.Inside c.args.self.now.walk.now c.in-Some.position
 inside g c = (g.W.Walk.sound c.args.self.now.walk.now).step_inside _ _ _ (c.requires.tried.entered.inside c.args.at c.requires.inside) c.requires.lettered (leads g c)
