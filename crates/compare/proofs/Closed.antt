@@ -17,6 +17,9 @@ use Rattle.compare.proofs.Flaws.{Good, places_good, good_places}
 use Rattle.compare.proofs.Pairs.{differ_from}
 use Rattle.compare.proofs.Tables.{same_pair, same_pair_self}
 
+pub no_reset : (m : Machine) (a b : ℕ) (ps : List Pair) → listed ps (reset_pair m a b) ≡ false → Some NoResetPair ≡ finding m a b ps
+no_reset m a b ps e = sym (ap (λ t. cond t (flaw_at_places m a b (listed ps) 0 ps) (Some NoResetPair)) e)
+
 module _ (m : Machine) (a b : ℕ) (ps : List Pair) (closed : finding m a b ps ≡ None) where
   has_reset : listed ps (reset_pair m a b) ≡ true
   has_reset = go (listed ps (reset_pair m a b)) refl closed

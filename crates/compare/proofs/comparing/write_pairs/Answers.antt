@@ -1,8 +1,6 @@
-use Rattle.std.proofs.Common.{◌≡◌, ℕ, List, ◌++◌, length, get_or, take, drop, set, ap, ◌∙◌, arith}
-use Rattle.std.proofs.lemmas.List.{take_all}
+use Rattle.std.proofs.Common.{List, get_or, set, ap, ◌∙◌, arith}
 use Rattle.machine.specs.declared.pair.Pair.{Pair}
 use Rattle.search.specs.declared.visit.Visit.{Visit}
-use Rattle.compare.specs.Comparisons.{positions}
 use Rattle.compare.proofs.Listing.{images_more}
 use Rattle.compare.proofs.comparing.write_pairs.Goals as goal
 
@@ -12,11 +10,3 @@ loop-i-preserved c =
     let i = c.loop-i.i in
     let none : Visit Pair = record { position = record { first = 0; second = 0 }; from = 0; letter = 0 } in
     ap (λ (ps : List Pair). set ps i (get_or xs i none).position) c.loop-i.invariant ∙ images_more (λ v. v.position) xs c.args.pairs.now i none (omega arith) (omega arith)
-
-pub returns : goal.returns
-returns c =
-    let xs = c.args.visits.now in
-    let i : c.loop-i.i ≡ length xs = omega arith in
-    c.loop-i.invariant
-    ∙ ap (λ (k : ℕ). positions (take k xs) ++ drop k c.args.pairs.now) i
-    ∙ ap (λ (vs : List (Visit Pair)). positions vs ++ drop (length xs) c.args.pairs.now) (take_all (length xs) xs (omega arith))
