@@ -6,10 +6,9 @@ use Rattle.machine.specs.Slices.{FirstEntries}
 use Rattle.machine.specs.declared.refusal.Refusal.TheVariants.{RowsDisagree, CellNotGiven, CountMismatch, WorkTooShort}
 use Rattle.devices.specs.declared.cell.Cell.{Cell}
 use Rattle.kiss2.specs.Laws.{InRange, Lawful}
-use Rattle.kiss2.specs.Progressing.{reset_state}
+use Rattle.kiss2.specs.Progressing.{Progress, reset_state}
 use Rattle.kiss2.specs.Readings.{Reading, miscounted, reading, refused}
 use Rattle.kiss2.specs.declared.part.Part.{Part}
-use Rattle.kiss2.specs.declared.progress.Progress.{Progress}
 use Rattle.kiss2.specs.declared.refused.Refused.{Refused}
 use Rattle.kiss2.specs.declared.shape.Shape.{Shape}
 
