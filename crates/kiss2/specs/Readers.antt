@@ -4,28 +4,30 @@ use Rattle.machine.specs.declared.refusal.Refusal.{Refusal}
 use Rattle.kiss2.specs.Placing.{Table, table}
 use Rattle.kiss2.specs.Progressing.{Held, Progress, Stepped}
 use Rattle.kiss2.specs.Readings.{Seen}
+use Rattle.kiss2.specs.declared.filling.Filling.{Filling}
+use Rattle.kiss2.specs.declared.names.Names.{Names}
 use Rattle.kiss2.specs.declared.reader.Reader.{Reader}
 
 -- how far it has come
-abbrev pub progress : Reader → Progress
-progress r = record { heading = r.heading; states = r.names.count; rows = r.rows; clash = r.table.clash }
+abbrev pub progress : Reader → Names → Filling → Progress
+progress r names t = record { heading = r.heading; states = names.count; rows = r.rows; clash = t.clash }
 
--- the table that it fills
-abbrev pub filled : Reader → Table
-filled r = table r.table.cells.now r.table.given
+-- the table that is being filled
+abbrev pub filled : Filling → Table
+filled t = table t.cells.now t.given
 
--- before a line, it holds what the lines seen say
-pub record Reads (r : Reader) : Type 0 where
-  pub held : Held r.names.text.now (progress r) r.names.entries.now (filled r)
+-- before a line, all three hold what the lines seen say
+pub record Reads (r : Reader) (names : Names) (t : Filling) : Type 0 where
+  pub held : Held names.text.now (progress r names t) names.entries.now (filled t)
   pub few_rows : r.rows < 2 ^ 32
 
--- a step takes what it holds of lines seen to what it holds of the lines that next gives, or refuses as next does
-abbrev pub Steps : (Seen → Result Seen Refusal) → Reader → Result Unit Refusal → Reader → Type 0
-Steps next r result r' = Stepped r.names.text.now next (progress r) r.names.entries.now (filled r) result (progress r') r'.names.entries.now (filled r')
+-- a step takes what they hold of lines seen to what they hold of the lines that next gives, or refuses as next does
+abbrev pub Steps : (Seen → Result Seen Refusal) → Reader → Names → Filling → Result Unit Refusal → Reader → Names → Filling → Type 0
+Steps next r names t result r' names' t' = Stepped names.text.now next (progress r names t) names.entries.now (filled t) result (progress r' names' t') names'.entries.now (filled t')
 
 -- the text and the slices are those that were lent
-pub record SameLoans (r r' : Reader) : Type 0 where
-  pub text : r'.names.text ≡ r.names.text
-  pub entries : r'.names.entries.ghost_name ≡ r.names.entries.ghost_name
-  pub cells : r'.table.cells.ghost_name ≡ r.table.cells.ghost_name
-  pub size : length r'.table.cells.now ≡ length r.table.cells.now
+pub record SameLoans (names : Names) (t : Filling) (names' : Names) (t' : Filling) : Type 0 where
+  pub text : names'.text ≡ names.text
+  pub entries : names'.entries.ghost_name ≡ names.entries.ghost_name
+  pub cells : t'.cells.ghost_name ≡ t.cells.ghost_name
+  pub size : length t'.cells.now ≡ length t.cells.now

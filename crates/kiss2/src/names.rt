@@ -22,9 +22,7 @@ fn is_name(text: &[u8], part: Part, name: &[u8]) -> bool
 fn number_among(text: &[u8], entries: &[Part], name: &[u8]) -> Option<usize>
     ensures { result ≡ number_among text.now entries.now name.now }
 {
-    entries
-        .iter()
-        .position(|entry| is_name(text, *entry, name))
+    entries.iter().position(|entry| is_name(text, *entry, name))
 }
 
 // The names of the states so far: parts of the text, in the first entries of a slice.

@@ -55,44 +55,43 @@ fn miscounted(stated: Option<u32>, found: usize) -> bool
     stated.is_some_and(|count| count as usize != found)
 }
 
-// How far a text has been read: what its directives say, its states, the table that its rows give, and how many rows there are.
-#[derive(Drop)]
-pub(crate) struct Reader<'t, 'n, 'c> {
+// A reader of lines: what the directives have said so far, and how many rows there are. The states and the cells go into the names and the table.
+// These are handed to each call: of a slice that a struct inside another struct borrows, only the length is known once the loan ends.
+#[derive(Clone, Copy, Debug, Default)]
+pub(crate) struct Reader {
     pub(crate) heading: Heading,
-    pub(crate) names: Names<'t, 'n>,
-    pub(crate) table: Filling<'c>,
     pub(crate) rows: usize,
 }
 
-impl<'t, 'n, 'c> Reader<'t, 'n, 'c> {
+impl Reader {
     // Takes a row at a line: its states get their numbers, and its cells are given.
-    fn take_row(&mut self, line: usize, row: Row) -> Result<(), Refusal>
-        requires stands { RowStands self.old.names.text.now row }
+    fn take_row(&mut self, names: &mut Names, table: &mut Filling, line: usize, row: Row) -> Result<(), Refusal>
+        requires stands { RowStands names.old.text.now row }
         requires unended { self.old.heading.ended ≡ false }
-        requires reads { Reads self.old }
-        ensures taken { Steps (λ s. take_row self.old.names.text.now line s (part_of row.entry.input) (part_of row.entry.current) (part_of row.entry.next) (part_of row.entry.output)) self.old result self.new }
+        requires reads { Reads self.old names.old table.old }
+        ensures taken { Steps (λ s. take_row names.old.text.now line s (part_of row.entry.input) (part_of row.entry.current) (part_of row.entry.next) (part_of row.entry.output)) self.old names.old table.old result self.new names.new table.new }
         ensures more { self.new.rows ≤ self.old.rows + 1 }
-        ensures lent { SameLoans self.old self.new }
+        ensures lent { SameLoans names.old table.old names.new table.new }
     {
         self.heading.check(row)?;
         let (first, second) = row.states();
-        let (current, next) = self.names.number_both(first, second)?;
+        let (current, next) = names.number_both(first, second)?;
         let cell = Cell {
             next,
             output: output_word(row.output.bytes),
         };
-        self.table.give_row(line, row.input.bytes, current, cell);
+        table.give_row(line, row.input.bytes, current, cell);
         self.rows += 1;
         Ok(())
     }
 
     // Takes what a line says. Only blank lines follow the end.
-    fn take_line(&mut self, line: usize, said: Line) -> Result<(), Refusal>
-        requires stands { LineStands self.old.names.text.now said }
-        requires reads { Reads self.old }
-        ensures taken { Steps (λ s. take_line self.old.names.text.now line s (line_said said.entry)) self.old result self.new }
+    fn take_line(&mut self, names: &mut Names, table: &mut Filling, line: usize, said: Line) -> Result<(), Refusal>
+        requires stands { LineStands names.old.text.now said }
+        requires reads { Reads self.old names.old table.old }
+        ensures taken { Steps (λ s. take_line names.old.text.now line s (line_said said.entry)) self.old names.old table.old result self.new names.new table.new }
         ensures more { self.new.rows ≤ self.old.rows + 1 }
-        ensures lent { SameLoans self.old self.new }
+        ensures lent { SameLoans names.old table.old names.new table.new }
     {
         match said {
             Line::Blank => Ok(()),
@@ -108,38 +107,41 @@ impl<'t, 'n, 'c> Reader<'t, 'n, 'c> {
                 if self.heading.ended {
                     return Err(Refusal::BadLine);
                 }
-                self.take_row(line, row)
+                self.take_row(names, table, line, row)
             }
         }
     }
 
     // Reads the line from `start` to `end` and takes what it says.
-    fn read_line(&mut self, start: usize, end: usize, line: usize) -> Result<(), Refusal>
+    fn read_line(&mut self, names: &mut Names, table: &mut Filling, start: usize, end: usize, line: usize) -> Result<(), Refusal>
         requires ordered { start ≤ end }
-        requires inside { end ≤ length self.old.names.text.now }
-        requires reads { Reads self.old }
-        ensures taken { Steps (λ s. take_said self.old.names.text.now line s (line_of self.old.names.text.now (words_left self.old.names.text.now start end))) self.old result self.new }
+        requires inside { end ≤ length names.old.text.now }
+        requires reads { Reads self.old names.old table.old }
+        ensures taken { Steps (λ s. take_said names.old.text.now line s (line_of names.old.text.now (words_left names.old.text.now start end))) self.old names.old table.old result self.new names.new table.new }
         ensures more { self.new.rows ≤ self.old.rows + 1 }
-        ensures lent { SameLoans self.old self.new }
+        ensures lent { SameLoans names.old table.old names.new table.new }
     {
-        let said = parse_line(self.names.text, start, end)?;
-        self.take_line(line, said)
+        let said = parse_line(names.text, start, end)?;
+        self.take_line(names, table, line, said)
     }
 
     // Reads the lines one after another, up to the first that is refused.
-    pub(crate) fn read_lines(&mut self) -> Result<(), Refused>
-        requires nothing { progress self.old ≡ nothing_read }
-        requires ungiven { self.old.table.given ≡ replicate 16384 false }
-        ensures read { LinesRead self.old.names.text.now self.old.table.cells.now self.old.names.entries.now result (progress self.new) self.new.names.entries.now (filled self.new) }
-        ensures lent { SameLoans self.old self.new }
+    pub(crate) fn read_lines(&mut self, names: &mut Names, table: &mut Filling) -> Result<(), Refused>
+        requires nothing { progress self.old names.old table.old ≡ nothing_read }
+        requires ungiven { table.old.given ≡ replicate 16384 false }
+        ensures read { LinesRead names.old.text.now table.old.cells.now names.old.entries.now result (progress self.new names.new table.new) names.new.entries.now (filled table.new) }
+        ensures names_lent { names.new.entries.ghost_name ≡ names.old.entries.ghost_name }
+        ensures cells_lent { table.new.cells.ghost_name ≡ table.old.cells.ghost_name }
+        ensures text { names.new.text ≡ names.old.text }
+        ensures size { length table.new.cells.now ≡ length table.old.cells.now }
     {
-        let text = self.names.text;
+        let text = names.text;
         let mut start = LineStart::first();
         loop {
             let place = start.place;
             let line = start.number;
             let end = place + line_length(&text[place..]);
-            if let Err(refusal) = self.read_line(place, end, line) {
+            if let Err(refusal) = self.read_line(names, table, place, end, line) {
                 return Err(Refused { refusal, line });
             }
             if end == text.len() {
@@ -150,17 +152,16 @@ impl<'t, 'n, 'c> Reader<'t, 'n, 'c> {
     }
 
     // The shape of the table once all lines are read.
-    pub(crate) fn conclude(&self) -> Result<Shape, Refused>
+    pub(crate) fn conclude(&self, names: &Names, table: &Filling) -> Result<Shape, Refused>
         requires width { unwrap_or self.now.heading.inputs 0 ≤ 6 }
-        ensures { result ≡ shape_held self.now.names.text.now (progress self.now) self.now.names.entries.now (length self.now.table.cells.now) self.now.table.given }
+        ensures { result ≡ shape_held names.now.text.now (progress self.now names.now table.now) names.now.entries.now (length table.now.cells.now) table.now.given }
     {
         let heading = self.heading;
-        let states = self.names.count;
+        let states = names.count;
         if miscounted(heading.rows, self.rows) || miscounted(heading.states, states as usize) {
             return Err(Refusal::CountMismatch.into());
         }
-        let reset = self
-            .names
+        let reset = names
             .reset_state(heading.reset)
             .ok_or(Refusal::CountMismatch)?;
         let shape = Shape {
@@ -171,16 +172,16 @@ impl<'t, 'n, 'c> Reader<'t, 'n, 'c> {
             reset: reset as u16,
         };
         let cells = shape.cell_count();
-        if self.table.cells.len() < cells {
+        if table.cells.len() < cells {
             return Err(Refusal::WorkTooShort.into());
         }
-        if let Some(line) = self.table.clash {
+        if let Some(line) = table.clash {
             return Err(Refused {
                 refusal: Refusal::RowsDisagree,
                 line,
             });
         }
-        if self.rows == 0 || !self.table.all_given(cells) {
+        if self.rows == 0 || !table.all_given(cells) {
             return Err(Refusal::CellNotGiven.into());
         }
         Ok(shape)

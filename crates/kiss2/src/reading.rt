@@ -2,7 +2,6 @@ ghost use Rattle.std.specs.Prelude.{◌↔◌, ◌<◌, length, IsTrue};
 ghost use Rattle.kiss2.specs.Concluding.{Read};
 
 use crate::filling::{CELLS, Filling};
-use crate::heading::Heading;
 use crate::names::{Names, STATES};
 use crate::part::Part;
 use crate::reader::Reader;
@@ -32,22 +31,17 @@ pub fn read(text: &[u8], cells: &mut [Cell], names: &mut [Part]) -> Result<Shape
     if is_too_long(text) {
         return Err(Refusal::TextTooLong.into());
     }
-    let names = Names {
+    let mut names = Names {
         text,
         entries: names,
         count: 0,
     };
-    let table = Filling {
+    let mut table = Filling {
         cells,
         given: [false; CELLS],
         clash: None,
     };
-    let mut reader = Reader {
-        heading: Heading::default(),
-        names,
-        table,
-        rows: 0,
-    };
-    reader.read_lines()?;
-    reader.conclude()
+    let mut reader = Reader::default();
+    reader.read_lines(&mut names, &mut table)?;
+    reader.conclude(&names, &table)
 }

@@ -7,5 +7,6 @@ use Rattle.kiss2.proofs.reader.Reader.read_line.Goals as goal
 
 pub returns-clause-taken : goal.returns-clause-taken
 returns-clause-taken c =
-    let r = c.args.self.now in
-    subst (λ (x : Result Line Refusal). Steps (λ s. take_said r.names.text.now c.args.line s x) r c.take_line.result c.take_line.new.self) (sym c.in_ok-said.ensures.0) c.take_line.ensures.taken
+    let names = c.args.names.now in
+    let after = c.take_line.new in
+    subst (λ (x : Result Line Refusal). Steps (λ s. take_said names.text.now c.args.line s x) c.args.self.now names c.args.table.now c.take_line.result after.self after.names after.table) (sym c.in_ok-said.ensures.0) c.take_line.ensures.taken

@@ -31,6 +31,8 @@ pub loop-refusal-init : goal.loop-refusal-init
 loop-refusal-init c =
     let e = c.first-start.ensures in
     let r = c.args.self.now in
+    let names = c.args.names.now in
+    let t = c.args.table.now in
     let place : c.first-start.result.place ≡ 0 = ap (λ (x : LineStart). x.place) e in
     let number : c.first-start.result.number ≡ 1 = ap (λ (x : LineStart). x.number) e in
     let none : r.rows ≡ 0 = ap (λ (p : Progress). p.rows) c.requires.nothing in
@@ -39,69 +41,80 @@ loop-refusal-init c =
       numbered = omega (arith, place, number);
       few_rows = omega (arith, number, none);
       lent = record { text = refl; entries = refl; cells = refl; size = refl };
-      seen = (nothing_seen, subst (From r.names.text.now nothing_seen) (sym e) refl, sound_nothing r.names.text.now, subst (λ (p : Progress). Holds r.table.cells.now r.names.entries.now p r.names.entries.now (filled r) nothing_seen) (sym c.requires.nothing) (holds_nothing r.table.cells.now r.names.entries.now r.table.given c.requires.ungiven));
+      seen = (nothing_seen, subst (From names.text.now nothing_seen) (sym e) refl, sound_nothing names.text.now, subst (λ (p : Progress). Holds t.cells.now names.entries.now p names.entries.now (filled t) nothing_seen) (sym c.requires.nothing) (holds_nothing t.cells.now names.entries.now t.given c.requires.ungiven));
     }
 
 pub read_line-requires : goal.read_line-requires
 read_line-requires c =
     let inv = c.loop-refusal.invariant in
     let r = c.loop-refusal.self in
-    let text = c.args.self.now.names.text.now in
+    let names = c.loop-refusal.names in
+    let t = c.loop-refusal.table in
+    let text = c.args.names.now.text.now in
     let place = c.loop-refusal.start.place in
-    let same : r.names.text.now ≡ text = ap (λ (b : Bor (List ℕ)). b.now) inv.lent.text in
+    let same : names.text.now ≡ text = ap (λ (b : Bor (List ℕ)). b.now) inv.lent.text in
     let inside = line_ends text place _ inv.inside (ends text place c.line_length.result c.line_length.ensures.value) in
     record {
       ordered = omega arith;
       inside = omega (arith, inside, ap length same);
       reads = record {
-        held = subst (λ (x : List ℕ). Held x (progress r) r.names.entries.now (filled r)) (sym same) (c.args.self.now.table.cells.now, (c.args.self.now.names.entries.now, (inv.seen.0, inv.seen.2, inv.seen.3)));
-        few_rows = omega (arith, inv.inside, inv.numbered, inv.few_rows, c.args.self.now.names.short);
+        held = subst (λ (x : List ℕ). Held x (progress r names t) names.entries.now (filled t)) (sym same) (c.args.table.now.cells.now, (c.args.names.now.entries.now, (inv.seen.0, inv.seen.2, inv.seen.3)));
+        few_rows = omega (arith, inv.inside, inv.numbered, inv.few_rows, c.args.names.now.short);
       };
     }
 
 pub returns-in-Err-clause-read : goal.returns-in-Err-clause-read
 returns-in-Err-clause-read c =
     let inv = c.loop-refusal.invariant in
-    let old = c.args.self.now in
     let r = c.loop-refusal.self in
-    let text = old.names.text.now in
+    let names = c.loop-refusal.names in
+    let t = c.loop-refusal.table in
+    let text = c.args.names.now.text.now in
     let place = c.loop-refusal.start.place in
     let n = c.loop-refusal.start.number in
     let r' = c.read_line.new.self in
+    let names' = c.read_line.new.names in
+    let t' = c.read_line.new.table in
     let is = ends text place c.line_length.result c.line_length.ensures.value in
     let s = inv.seen.0 in
-    let taken = of_text r.names.text.now text place _ n (progress r) r.names.entries.now (filled r) (Err c.in-Err.refusal) (progress r') r'.names.entries.now (filled r') (ap (λ (b : Bor (List ℕ)). b.now) inv.lent.text) c.in-Err.ensures.taken in
-    sym inv.seen.1 ∙ line_refused text place _ inv.inside is n s c.in-Err.refusal (taken old.table.cells.now old.names.entries.now s inv.seen.2 inv.seen.3)
+    let taken = of_text names.text.now text place _ n (progress r names t) names.entries.now (filled t) (Err c.in-Err.refusal) (progress r' names' t') names'.entries.now (filled t') (ap (λ (b : Bor (List ℕ)). b.now) inv.lent.text) c.in-Err.ensures.taken in
+    sym inv.seen.1 ∙ line_refused text place _ inv.inside is n s c.in-Err.refusal (taken c.args.table.now.cells.now c.args.names.now.entries.now s inv.seen.2 inv.seen.3)
 
 pub returns-then-end-text-clause-read : goal.returns-then-end-text-clause-read
 returns-then-end-text-clause-read c =
     let inv = c.loop-refusal.invariant in
-    let old = c.args.self.now in
     let r = c.loop-refusal.self in
-    let text = old.names.text.now in
+    let names = c.loop-refusal.names in
+    let t = c.loop-refusal.table in
+    let text = c.args.names.now.text.now in
     let place = c.loop-refusal.start.place in
     let n = c.loop-refusal.start.number in
     let r' = c.read_line.new.self in
+    let names' = c.read_line.new.names in
+    let t' = c.read_line.new.table in
     let is = ends text place c.line_length.result c.line_length.ensures.value in
     let s = inv.seen.0 in
-    let taken = of_text r.names.text.now text place _ n (progress r) r.names.entries.now (filled r) (Ok tt) (progress r') r'.names.entries.now (filled r') (ap (λ (b : Bor (List ℕ)). b.now) inv.lent.text) c.in_default.ensures.taken in
-    let x = taken old.table.cells.now old.names.entries.now s inv.seen.2 inv.seen.3 in
+    let taken = of_text names.text.now text place _ n (progress r names t) names.entries.now (filled t) (Ok tt) (progress r' names' t') names'.entries.now (filled t') (ap (λ (b : Bor (List ℕ)). b.now) inv.lent.text) c.in_default.ensures.taken in
+    let x = taken c.args.table.now.cells.now c.args.names.now.entries.now s inv.seen.2 inv.seen.3 in
     (x.0, sym inv.seen.1 ∙ last_taken text place _ inv.inside is n s x.0 x.1 c.if-end-text.true, x.2, x.3)
 
 pub loop-refusal-preserved : goal.loop-refusal-preserved
 loop-refusal-preserved c =
     let inv = c.loop-refusal.invariant in
-    let old = c.args.self.now in
     let r = c.loop-refusal.self in
-    let text = old.names.text.now in
+    let names = c.loop-refusal.names in
+    let t = c.loop-refusal.table in
+    let text = c.args.names.now.text.now in
     let place = c.loop-refusal.start.place in
     let n = c.loop-refusal.start.number in
     let r' = c.read_line.new.self in
+    let names' = c.read_line.new.names in
+    let t' = c.read_line.new.table in
     let is = ends text place c.line_length.result c.line_length.ensures.value in
     let inside = line_ends text place _ inv.inside is in
     let s = inv.seen.0 in
-    let taken = of_text r.names.text.now text place _ n (progress r) r.names.entries.now (filled r) (Ok tt) (progress r') r'.names.entries.now (filled r') (ap (λ (b : Bor (List ℕ)). b.now) inv.lent.text) c.in_default.ensures.taken in
-    let x = taken old.table.cells.now old.names.entries.now s inv.seen.2 inv.seen.3 in
+    let taken = of_text names.text.now text place _ n (progress r names t) names.entries.now (filled t) (Ok tt) (progress r' names' t') names'.entries.now (filled t') (ap (λ (b : Bor (List ℕ)). b.now) inv.lent.text) c.in_default.ensures.taken in
+    let x = taken c.args.table.now.cells.now c.args.names.now.entries.now s inv.seen.2 inv.seen.3 in
     let e = c.next-start.ensures in
     let place_is = ap (λ (x : LineStart). x.place) e in
     let number_is = ap (λ (x : LineStart). x.number) e in
@@ -116,7 +129,7 @@ loop-refusal-preserved c =
 pub next-start-requires : goal.next-start-requires
 next-start-requires c =
     let inv = c.loop-refusal.invariant in
-    let text = c.args.self.now.names.text.now in
+    let text = c.args.names.now.text.now in
     let place = c.loop-refusal.start.place in
     let inside = line_ends text place _ inv.inside (ends text place c.line_length.result c.line_length.ensures.value) in
-    (omega (arith, inv.inside, inv.numbered, c.args.self.now.names.short), omega (arith, inside, c.args.self.now.names.short))
+    (omega (arith, inv.inside, inv.numbered, c.args.names.now.short), omega (arith, inside, c.args.names.now.short))

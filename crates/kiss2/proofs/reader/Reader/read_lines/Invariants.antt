@@ -13,8 +13,8 @@ invariant-loop-refusal l = record {
   inside : l.start.place ≤ length l.text;
   numbered : l.start.number ≤ l.start.place + 1;
   few_rows : l.self.rows < l.start.number;
-  lent : SameLoans l.initial.self l.self;
-  seen : (s : Seen) × (take_lines l.text l.start.number s (from_line l.start.place (drop l.start.place l.text)) ≡ take_lines l.text 1 nothing_seen (lines l.text)) × Sound l.text s × Holds l.initial.self.table.cells.now l.initial.self.names.entries.now (progress l.self) l.self.names.entries.now (filled l.self) s;
+  lent : SameLoans l.initial.names l.initial.table l.names l.table;
+  seen : (s : Seen) × (take_lines l.text l.start.number s (from_line l.start.place (drop l.start.place l.text)) ≡ take_lines l.text 1 nothing_seen (lines l.text)) × Sound l.text s × Holds l.initial.table.cells.now l.initial.names.entries.now (progress l.self l.names l.table) l.names.entries.now (filled l.table) s;
 }
 
 abbrev pub decreases-loop-refusal : goal.decreases-loop-refusal

@@ -1,0 +1,4 @@
+use Rattle.kiss2.proofs.reading.read.Goals as goal
+
+pub returns : goal.returns
+returns c = ?
