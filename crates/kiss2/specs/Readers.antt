@@ -1,5 +1,5 @@
 -- What a reader holds, as lines and rows.
-use Rattle.std.specs.Prelude.{◌≡◌, ℕ, ◌^◌, ◌<◌, List, length, Result}
+use Rattle.std.specs.Prelude.{◌≡◌, ◌^◌, ◌<◌, length, Result}
 use Rattle.machine.specs.declared.refusal.Refusal.{Refusal}
 use Rattle.kiss2.specs.Placing.{Table, table}
 use Rattle.kiss2.specs.Progressing.{Held, Progress, Stepped}

@@ -65,7 +65,13 @@ pub(crate) struct Reader {
 
 impl Reader {
     // Takes a row at a line: its states get their numbers, and its cells are given.
-    fn take_row(&mut self, names: &mut Names, table: &mut Filling, line: usize, row: Row) -> Result<(), Refusal>
+    fn take_row(
+        &mut self,
+        names: &mut Names,
+        table: &mut Filling,
+        line: usize,
+        row: Row,
+    ) -> Result<(), Refusal>
         requires stands { RowStands names.old.text.now row }
         requires unended { self.old.heading.ended ≡ false }
         requires reads { Reads self.old names.old table.old }
@@ -86,7 +92,13 @@ impl Reader {
     }
 
     // Takes what a line says. Only blank lines follow the end.
-    fn take_line(&mut self, names: &mut Names, table: &mut Filling, line: usize, said: Line) -> Result<(), Refusal>
+    fn take_line(
+        &mut self,
+        names: &mut Names,
+        table: &mut Filling,
+        line: usize,
+        said: Line,
+    ) -> Result<(), Refusal>
         requires stands { LineStands names.old.text.now said }
         requires reads { Reads self.old names.old table.old }
         ensures taken { Steps (λ s. take_line names.old.text.now line s (line_said said.entry)) self.old names.old table.old result self.new names.new table.new }
@@ -113,7 +125,14 @@ impl Reader {
     }
 
     // Reads the line from `start` to `end` and takes what it says.
-    fn read_line(&mut self, names: &mut Names, table: &mut Filling, start: usize, end: usize, line: usize) -> Result<(), Refusal>
+    fn read_line(
+        &mut self,
+        names: &mut Names,
+        table: &mut Filling,
+        start: usize,
+        end: usize,
+        line: usize,
+    ) -> Result<(), Refusal>
         requires ordered { start ≤ end }
         requires inside { end ≤ length names.old.text.now }
         requires reads { Reads self.old names.old table.old }
@@ -126,7 +145,11 @@ impl Reader {
     }
 
     // Reads the lines one after another, up to the first that is refused.
-    pub(crate) fn read_lines(&mut self, names: &mut Names, table: &mut Filling) -> Result<(), Refused>
+    pub(crate) fn read_lines(
+        &mut self,
+        names: &mut Names,
+        table: &mut Filling,
+    ) -> Result<(), Refused>
         requires nothing { progress self.old names.old table.old ≡ nothing_read }
         requires ungiven { table.old.given ≡ replicate 16384 false }
         ensures read { LinesRead names.old.text.now table.old.cells.now names.old.entries.now result (progress self.new names.new table.new) names.new.entries.now (filled table.new) }

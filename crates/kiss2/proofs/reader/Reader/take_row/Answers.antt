@@ -1,4 +1,4 @@
-use Rattle.std.proofs.Common.{◌≡◌, ℕ, ◌+◌, ◌<◌, List, length, take, Ok, Result, sym, ap, ◌∙◌, subst, arith}
+use Rattle.std.proofs.Common.{◌≡◌, ℕ, ◌+◌, List, length, take, Ok, Result, sym, ap, ◌∙◌, subst, arith}
 use Rattle.machine.specs.declared.refusal.Refusal.{Refusal}
 use Rattle.kiss2.specs.Lines.{RowStands}
 use Rattle.kiss2.specs.Progressing.{BothEnlisted}
