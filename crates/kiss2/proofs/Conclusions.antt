@@ -13,17 +13,16 @@ use Rattle.devices.specs.Cells.{no_cell}
 use Rattle.devices.specs.declared.cell.Cell.{Cell}
 use Rattle.kiss2.specs.Concluding.{Read, shape_held, with_reset, without_clash}
 use Rattle.kiss2.specs.Placing.{Table}
-use Rattle.kiss2.specs.Progressing.{Filled, Holds, RowRoom, reset_state}
+use Rattle.kiss2.specs.Progressing.{Filled, Holds, Progress, RowRoom, reset_state}
 use Rattle.kiss2.specs.Readings.{Reading, Seen, cell_count, cells_of, complete, concluded, conclusion, miscounted, mismatch, nothing_seen, reading, reading_of, refused, reset_missing, reset_number, take_lines, unless_clash}
 use Rattle.kiss2.specs.Rows.{Transition, among, given_at, number_of, places}
 use Rattle.kiss2.specs.Seeing.{RowSound, Sound, WidthUpto}
 use Rattle.kiss2.specs.Texts.{bytes_of, lines}
 use Rattle.kiss2.specs.declared.heading.Heading.{Heading}
 use Rattle.kiss2.specs.declared.part.Part.{Part}
-use Rattle.kiss2.specs.declared.progress.Progress.{Progress}
 use Rattle.kiss2.specs.declared.refused.Refused.{Refused}
 use Rattle.kiss2.specs.declared.shape.Shape.{Shape}
-use Rattle.kiss2.proofs.Filling.{places_below}
+use Rattle.kiss2.proofs.Filled.{places_below}
 use Rattle.kiss2.proofs.Giving.{cells_few}
 use Rattle.kiss2.proofs.Lawful.{accepted, lawful}
 use Rattle.kiss2.proofs.Soundness.{ok_same}

@@ -1,7 +1,8 @@
 -- Giving cells one after another, and what the rows give together.
-use Rattle.std.proofs.Common.{◌≡◌, ℕ, ◌+◌, ◌-◌, ◌*◌, ◌%◌, ◌^◌, ◌<◌, ◌≤◌, Bool, true, false, cond, eqb, List, [], ◌∷◌, ◌++◌, length, get_or, take, drop, Some, None, Option, sym, refl, ap, ◌∙◌, mul-le-mul_right, mod-eq_of_lt, mul_assoc, mul_comm, mul-le-mul, mul-le-mul_left, arith, pow_pos, pow_mono, pow-add}
+use Rattle.std.proofs.Common.{◌≡◌, ℕ, ◌+◌, ◌-◌, ◌*◌, ◌%◌, ◌^◌, ◌<◌, ◌≤◌, cond, eqb, List, [], ◌∷◌, ◌++◌, length, get_or, take, drop, Some, None, Ok, Err, Option, Result, sym, refl, ap, ◌∙◌, mul-le-mul_right, mod-eq_of_lt, mul_assoc, mul_comm, mul-le-mul, mul-le-mul_left, arith, pow_pos, pow_mono, pow-add}
 use Rattle.std.proofs.lemmas.Slice.{first_rest}
 use Rattle.std.proofs.lemmas.Bool.{cond-true, cond-false, eq-eqb, ne_eqb}
+use Rattle.machine.specs.declared.refusal.Refusal.{Refusal}
 use Rattle.devices.specs.declared.cell.Cell.{Cell}
 use Rattle.kiss2.specs.Rows.{places}
 use Rattle.kiss2.specs.Placing.{Placed, Table, and_then, put_all, put_at}
@@ -16,18 +17,18 @@ put_append c (k ∷ ks) js t = go (put_at c k t) (put_append c ks js)
     go (Some u) more = more u
 
 -- a single place
-pub placed_one : (c : Cell) (k : ℕ) (t : Table) (r : Bool) (u : Table) → Placed (put_at c k t) r u → Placed (put_all c (k ∷ []) t) r u
-placed_one c k t true u e = ap (λ (x : Option Table). and_then x (put_all c [])) e
-placed_one c k t false u e = ap (λ (x : Option Table). and_then x (put_all c [])) e
+pub placed_one : (c : Cell) (k : ℕ) (t : Table) (r : Result Unit Refusal) (u : Table) → Placed (put_at c k t) r u → Placed (put_all c (k ∷ []) t) r u
+placed_one c k t (Ok _) u e = ap (λ (x : Option Table). and_then x (put_all c [])) e
+placed_one c k t (Err d) u e = (ap (λ (x : Option Table). and_then x (put_all c [])) e.0, e.1)
 
 -- some places, and then others
-pub placed_both : (c : Cell) (ks js : List ℕ) (t u : Table) (r : Bool) (v : Table) → Placed (put_all c ks t) true u → Placed (put_all c js u) r v → Placed (put_all c (ks ++ js) t) r v
-placed_both c ks js t u true v e f = put_append c ks js t ∙ ap (λ (x : Option Table). and_then x (put_all c js)) e ∙ f
-placed_both c ks js t u false v e f = put_append c ks js t ∙ ap (λ (x : Option Table). and_then x (put_all c js)) e ∙ f
+pub placed_both : (c : Cell) (ks js : List ℕ) (t u : Table) (r : Result Unit Refusal) (v : Table) → put_all c ks t ≡ Some u → Placed (put_all c js u) r v → Placed (put_all c (ks ++ js) t) r v
+placed_both c ks js t u (Ok _) v e f = put_append c ks js t ∙ ap (λ (x : Option Table). and_then x (put_all c js)) e ∙ f
+placed_both c ks js t u (Err d) v e f = (put_append c ks js t ∙ ap (λ (x : Option Table). and_then x (put_all c js)) e ∙ f.0, f.1)
 
 -- a place that cannot be given stops all
-pub placed_stops : (c : Cell) (ks js : List ℕ) (t u : Table) → Placed (put_all c ks t) false u → Placed (put_all c (ks ++ js) t) false u
-placed_stops c ks js t u e = put_append c ks js t ∙ ap (λ (x : Option Table). and_then x (put_all c js)) e
+pub placed_stops : (c : Cell) (ks js : List ℕ) (t : Table) → put_all c ks t ≡ None → put_all c (ks ++ js) t ≡ None
+placed_stops c ks js t e = put_append c ks js t ∙ ap (λ (x : Option Table). and_then x (put_all c js)) e
 
 -- one digit more halves the room
 pub room_halves : (p q n m size : ℕ) → q ≤ p * 2 + 1 → n ≡ m + 1 → (p + 1) * 2 ^ n ≤ size → (q + 1) * 2 ^ m ≤ size

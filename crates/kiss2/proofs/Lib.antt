@@ -13,7 +13,7 @@ pub mod Givens
 pub mod Telling
 pub mod Lawful
 pub mod Enlisting
-pub mod Filling
+pub mod Filled
 pub mod Stepping
 pub mod LineByLine
 pub mod Conclusions

@@ -10,7 +10,7 @@ use Rattle.kiss2.specs.Laws.{Inside, entry_at}
 use Rattle.kiss2.specs.Headings.{take_directive, with_end}
 use Rattle.kiss2.specs.Lines.{Line, directive, end, row}
 use Rattle.kiss2.specs.Placing.{Table}
-use Rattle.kiss2.specs.Progressing.{BothEnlisted, Filled, Gave, Holds, RowRoom, Stepped}
+use Rattle.kiss2.specs.Progressing.{BothEnlisted, Filled, Gave, Holds, Progress, RowRoom, Stepped}
 use Rattle.kiss2.specs.Readings.{Seen, headed, names_with, or_else, take_line, take_row, transition, unless, with_heading, with_row}
 use Rattle.kiss2.specs.Rows.{Transition, output_word, fits_rows, has_width, named, number_of, row_refusal}
 use Rattle.kiss2.specs.Seeing.{LineInside, Sound, WidthUpto}
@@ -18,10 +18,9 @@ use Rattle.kiss2.specs.Texts.{bytes_of}
 use Rattle.kiss2.specs.declared.heading.Heading.{Heading}
 use Rattle.kiss2.specs.declared.line.Key.{Key}
 use Rattle.kiss2.specs.declared.part.Part.{Part}
-use Rattle.kiss2.specs.declared.progress.Progress.{Progress}
 use Rattle.kiss2.proofs.Enlisting.{first_again, first_are, first_length}
 use Rattle.kiss2.proofs.Entries.{named_below, named_grows}
-use Rattle.kiss2.proofs.Filling.{row_filled}
+use Rattle.kiss2.proofs.Filled.{row_filled}
 use Rattle.kiss2.proofs.Soundness.{RowFits, row_fits, sound_line}
 
 -- the names that are held are those of the states

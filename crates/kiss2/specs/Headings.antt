@@ -1,5 +1,5 @@
 -- What the directives of a text say.
-use Rattle.std.specs.Prelude.{ℕ, ◌+◌, ◌-◌, ◌*◌, Bool, true, false, cond, ◌&&◌, ◌||◌, List, length, is_some, Some, None, Ok, Err, fold, Result, nat_le, nat_lt}
+use Rattle.std.specs.Prelude.{ℕ, ◌+◌, ◌-◌, ◌*◌, Bool, true, false, if◌then◌else◌, ◌&&◌, ◌||◌, List, length, is_some, Some, None, Ok, Err, fold, Result, nat_le, nat_lt}
 use Rattle.machine.specs.Lists.{all}
 use Rattle.machine.specs.declared.refusal.Refusal.{Refusal}
 use Rattle.machine.specs.declared.refusal.Refusal.TheVariants.{BadLine, BadName}
@@ -27,7 +27,7 @@ decimal ds = fold (λ n d. n * 10 + (d - 48)) 0 ds
 
 -- the count that a word writes, from least to most
 abbrev pub count_of : ℕ → ℕ → List ℕ → Result ℕ Refusal
-count_of least most ds = cond (is_count ds && (nat_le least (decimal ds) && nat_le (decimal ds) most)) (Ok (decimal ds)) (Err BadLine)
+count_of least most ds = if is_count ds && (nat_le least (decimal ds) && nat_le (decimal ds) most) then Ok (decimal ds) else Err BadLine
 
 -- a name that a text may give a state: at most 16 bytes
 abbrev pub short_name : List ℕ → Bool
@@ -48,7 +48,7 @@ read_with (Err r) f = Err r
 
 -- the name of a reset state, the part w with these bytes
 abbrev pub reset_name : Part → List ℕ → Result Part Refusal
-reset_name w s = cond (opens_with_stop s) (Err BadLine) (cond (short_name s) (Ok w) (Err BadName))
+reset_name w s = if opens_with_stop s then Err BadLine else (if short_name s then Ok w else Err BadName)
 
 -- the heading with one directive more, whose word is the part w with these bytes
 abbrev pub with_directive : Heading → Key → Part → List ℕ → Result Heading Refusal
@@ -64,4 +64,4 @@ with_end h = record { inputs = h.inputs; outputs = h.outputs; rows = h.rows; sta
 
 -- a directive is taken before the first row and once
 abbrev pub take_directive : Bool → Heading → Key → Part → List ℕ → Result Heading Refusal
-take_directive started h key w s = cond (started || stated h key) (Err BadLine) (with_directive h key w s)
+take_directive started h key w s = if started || stated h key then Err BadLine else with_directive h key w s

@@ -9,5 +9,6 @@ pub mod Seeing
 pub mod Naming
 pub mod Placing
 pub mod Progressing
+pub mod Readers
 pub mod Concluding
 pub mod Sides

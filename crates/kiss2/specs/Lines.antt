@@ -1,5 +1,5 @@
 -- What a line of the text says.
-use Rattle.std.specs.Prelude.{◌≡◌, ℕ, Bool, false, cond, ◌||◌, List, [], ◌∷◌, Some, None, Ok, Err, Option, Result, ◌==◌}
+use Rattle.std.specs.Prelude.{◌≡◌, ℕ, Bool, false, if◌then◌else◌, ◌||◌, List, [], ◌∷◌, Some, None, Ok, Err, Option, Result, ◌==◌}
 use Rattle.machine.specs.declared.refusal.Refusal.{Refusal}
 use Rattle.machine.specs.declared.refusal.Refusal.TheVariants.{BadLine}
 use Rattle.kiss2.specs.Texts.{bytes_of, part_of, Stands}
@@ -25,11 +25,11 @@ opens_with_stop (b ∷ s) = b == 46
 -- the directive of a letter, of those that take a word: .i, .o, .p, .s and .r
 abbrev pub key_of : ℕ → Option Key
 key_of letter =
-    cond (letter == 105) (Some Inputs)
-    (cond (letter == 111) (Some Outputs)
-    (cond (letter == 112) (Some Rows)
-    (cond (letter == 115) (Some States)
-    (cond (letter == 114) (Some Reset) None))))
+    if letter == 105 then Some Inputs else
+    if letter == 111 then Some Outputs else
+    if letter == 112 then Some Rows else
+    if letter == 115 then Some States else
+    if letter == 114 then Some Reset else None
 
 -- the directive of a key and its word
 abbrev pub keyed : Option Key → Part → Result Line Refusal
@@ -38,7 +38,7 @@ keyed (Some k) w = Ok (directive k w)
 
 -- what a directive says, by its letter and the words behind it
 abbrev pub directive_of : ℕ → List Part → Result Line Refusal
-directive_of letter [] = cond (letter == 101) (Ok end) (Err BadLine)
+directive_of letter [] = if letter == 101 then Ok end else Err BadLine
 directive_of letter (w ∷ []) = keyed (key_of letter) w
 directive_of letter (w ∷ v ∷ ws) = Err BadLine
 
@@ -47,7 +47,7 @@ abbrev pub row_of : List ℕ → Part → List Part → Result Line Refusal
 row_of text a [] = Err BadLine
 row_of text a (b ∷ []) = Err BadLine
 row_of text a (b ∷ c ∷ []) = Err BadLine
-row_of text a (b ∷ c ∷ d ∷ []) = cond (opens_with_stop (bytes_of text b) || opens_with_stop (bytes_of text c)) (Err BadLine) (Ok (row a b c d))
+row_of text a (b ∷ c ∷ d ∷ []) = if opens_with_stop (bytes_of text b) || opens_with_stop (bytes_of text c) then Err BadLine else Ok (row a b c d)
 row_of text a (b ∷ c ∷ d ∷ e ∷ ws) = Err BadLine
 
 -- what a line says whose first word is behind a full stop: one letter names the directive
@@ -59,7 +59,7 @@ behind_stop (letter ∷ b ∷ s) ws = Err BadLine
 -- what a line says, by the bytes of its first word: a full stop opens a directive
 abbrev pub said : List ℕ → Part → List Part → List ℕ → Result Line Refusal
 said text w ws [] = row_of text w ws
-said text w ws (b ∷ s) = cond (b == 46) (behind_stop s ws) (row_of text w ws)
+said text w ws (b ∷ s) = if b == 46 then behind_stop s ws else row_of text w ws
 
 -- what a line says, by its words
 abbrev pub line_of : List ℕ → List Part → Result Line Refusal

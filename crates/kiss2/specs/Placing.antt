@@ -1,5 +1,7 @@
 -- Giving cells of a table one after another.
-use Rattle.std.specs.Prelude.{◌≡◌, ℕ, Bool, true, false, cond, List, [], ◌∷◌, Some, None, Option, slice_index_or, slice_set}
+use Rattle.std.specs.Prelude.{◌≡◌, ℕ, Bool, true, false, if◌then◌else◌, List, [], ◌∷◌, Some, None, Ok, Err, Option, Result, slice_index_or, slice_set}
+use Rattle.machine.specs.declared.refusal.Refusal.{Refusal}
+use Rattle.machine.specs.declared.refusal.Refusal.TheVariants.{RowsDisagree}
 use Rattle.devices.specs.Cells.{no_cell}
 use Rattle.devices.specs.declared.cell.Cell.{Cell}
 use Rattle.kiss2.specs.Rows.{same_cell}
@@ -14,7 +16,10 @@ table cells given = record { cells = cells; given = given }
 
 -- the table with the cell c at place k; none where another was given before
 abbrev pub put_at : Cell → ℕ → Table → Option Table
-put_at c k t = cond (slice_index_or t.given k false) (cond (same_cell (slice_index_or t.cells k no_cell) c) (Some t) None) (Some (table (slice_set t.cells k c) (slice_set t.given k true)))
+put_at c k t =
+    if slice_index_or t.given k false
+    then (if same_cell (slice_index_or t.cells k no_cell) c then Some t else None)
+    else Some (table (slice_set t.cells k c) (slice_set t.given k true))
 
 -- goes on from a table, where there is one
 abbrev pub and_then : Option Table → (Table → Option Table) → Option Table
@@ -26,7 +31,7 @@ abbrev pub put_all : Cell → List ℕ → Table → Option Table
 put_all c [] t = Some t
 put_all c (k ∷ ks) t = and_then (put_at c k t) (put_all c ks)
 
--- whether there is a table, and then which
-abbrev pub Placed : Option Table → Bool → Table → Type 0
-Placed x true t = x ≡ Some t
-Placed x false t = x ≡ None
+-- the table is the one that there is; where there is none, rows disagree
+abbrev pub Placed : Option Table → Result Unit Refusal → Table → Type 0
+Placed x (Ok _) t = x ≡ Some t
+Placed x (Err r) t = (x ≡ None) × (r ≡ RowsDisagree)

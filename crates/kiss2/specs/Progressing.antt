@@ -7,13 +7,14 @@ use Rattle.machine.specs.declared.refusal.Refusal.{Refusal}
 use Rattle.machine.specs.declared.refusal.Refusal.TheVariants.{BadName}
 use Rattle.devices.specs.Cells.{no_cell}
 use Rattle.devices.specs.declared.cell.Cell.{Cell}
+use Rattle.kiss2.specs.Headings.{nothing_said}
 use Rattle.kiss2.specs.Placing.{Table, put_all}
 use Rattle.kiss2.specs.Readings.{Seen, names_with, nothing_seen, take_lines}
 use Rattle.kiss2.specs.Rows.{Transition, cell_given, given_at, named, number_among, number_of, places}
 use Rattle.kiss2.specs.Seeing.{Sound}
 use Rattle.kiss2.specs.Texts.{bytes_of, lines}
 use Rattle.kiss2.specs.declared.part.Part.{Part}
-use Rattle.kiss2.specs.declared.progress.Progress.{Progress}
+use Rattle.kiss2.specs.declared.heading.Heading.{Heading}
 use Rattle.kiss2.specs.declared.refused.Refused.{Refused}
 
 -- the states of a row get their numbers, current before next: they stand in the first entries of a slice, as many as counted, and a 257th is refused
@@ -39,6 +40,17 @@ pub record Filled (old : List Cell) (ts : List Transition) (t : Table) : Type 0 
   pub marked : (k : ℕ) → k < length t.given → slice_index_or t.given k false ≡ is_some (given_at ts k)
   pub filled : (k : ℕ) → k < length t.cells → slice_index_or t.cells k no_cell ≡ unwrap_or (given_at ts k) (slice_index_or old k no_cell)
 
+-- how far a text has been read: what its directives say, how many states and rows there are, and the line of the first row that contradicts one before it
+pub record Progress : Type 0 where
+  pub heading : Heading
+  pub states : ℕ
+  pub rows : ℕ
+  pub clash : Option ℕ
+
+-- before the first line
+abbrev pub nothing_read : Progress
+nothing_read = record { heading = nothing_said; states = 0; rows = 0; clash = None }
+
 -- the progress and the slices hold what the lines seen say
 pub record Holds (old_cells : List Cell) (old_names : List Part) (p : Progress) (names : List Part) (t : Table) (s : Seen) : Type 0 where
   pub heading : p.heading ≡ s.heading
@@ -57,9 +69,9 @@ Stepped text next p names t (Ok _) p' names' t' = (old_cells : List Cell) (old_n
 Stepped text next p names t (Err r) p' names' t' = (old_cells : List Cell) (old_names : List Part) (s : Seen) → Sound text s → Holds old_cells old_names p names t s → next s ≡ Err r
 
 -- all lines are read, and held as they say, or refused
-abbrev pub LinesRead : List ℕ → List Cell → List Part → Result Progress Refused → List Part → Table → Type 0
-LinesRead text old_cells old_names (Ok p) names t = (s : Seen) × (take_lines text 1 nothing_seen (lines text) ≡ Ok s) × Sound text s × Holds old_cells old_names p names t s
-LinesRead text old_cells old_names (Err e) names t = take_lines text 1 nothing_seen (lines text) ≡ Err e
+abbrev pub LinesRead : List ℕ → List Cell → List Part → Result Unit Refused → Progress → List Part → Table → Type 0
+LinesRead text old_cells old_names (Ok _) p names t = (s : Seen) × (take_lines text 1 nothing_seen (lines text) ≡ Ok s) × Sound text s × Holds old_cells old_names p names t s
+LinesRead text old_cells old_names (Err e) p names t = take_lines text 1 nothing_seen (lines text) ≡ Err e
 
 -- the number of the reset state among the states: the first where none is named, and none where the name is not among them
 abbrev pub reset_state : List ℕ → List Part → Option Part → Option ℕ

@@ -1,5 +1,5 @@
 -- What a text says as a whole, or why and at which line it is refused.
-use Rattle.std.specs.Prelude.{ℕ, ◌+◌, ◌*◌, ◌^◌, Bool, false, cond, not, ◌&&◌, ◌||◌, List, [], ◌∷◌, ◌++◌, map, length, is_some, Some, None, Ok, Err, Option, Result, ◌==◌, nat_le, nat_lt}
+use Rattle.std.specs.Prelude.{ℕ, ◌+◌, ◌*◌, ◌^◌, Bool, false, if◌then◌else◌, not, ◌&&◌, ◌||◌, List, [], ◌∷◌, ◌++◌, map, length, is_some, Some, None, Ok, Err, Option, Result, ◌==◌, nat_le, nat_lt}
 use Rattle.std.specs.Option.{unwrap_or}
 use Rattle.std.specs.List.{range_with_len}
 use Rattle.machine.specs.Lists.{all}
@@ -55,7 +55,7 @@ names_with text names b c = named text (named text names b) c
 
 -- some lines and a row at line n
 abbrev pub with_row : ℕ → Seen → List Part → Transition → Seen
-with_row n s names t = record { heading = s.heading; names = names; rows = s.rows ++ t ∷ []; clash = or_else s.clash (cond (fits_rows s.rows t) None (Some n)) }
+with_row n s names t = record { heading = s.heading; names = names; rows = s.rows ++ t ∷ []; clash = or_else s.clash (if fits_rows s.rows t then None else Some n) }
 
 -- goes on where there is no refusal
 abbrev pub unless : Option Refusal → Result Seen Refusal → Result Seen Refusal
@@ -66,7 +66,7 @@ unless (Some r) x = Err r
 abbrev pub take_row : List ℕ → ℕ → Seen → Part → Part → Part → Part → Result Seen Refusal
 take_row text n s a b c d =
     unless (row_refusal s.heading (bytes_of text a) (bytes_of text b) (bytes_of text c) (bytes_of text d))
-    (cond (nat_le (length (names_with text s.names b c)) 256) (Ok (with_row n s (names_with text s.names b c) (transition text s.names a b c d))) (Err BadName))
+    (if nat_le (length (names_with text s.names b c)) 256 then Ok (with_row n s (names_with text s.names b c) (transition text s.names a b c d)) else Err BadName)
 
 -- the directive's heading in the place of the old one
 abbrev pub headed : Seen → Result Heading Refusal → Result Seen Refusal
@@ -76,9 +76,9 @@ headed s (Err r) = Err r
 -- a line at its number: only blank lines follow the end
 abbrev pub take_line : List ℕ → ℕ → Seen → Line → Result Seen Refusal
 take_line text n s blank = Ok s
-take_line text n s (directive key w) = cond s.heading.ended (Err BadLine) (headed s (take_directive (nat_lt 0 (length s.rows)) s.heading key w (bytes_of text w)))
-take_line text n s end = cond s.heading.ended (Err BadLine) (Ok (with_heading s (with_end s.heading)))
-take_line text n s (row a b c d) = cond s.heading.ended (Err BadLine) (take_row text n s a b c d)
+take_line text n s (directive key w) = if s.heading.ended then Err BadLine else headed s (take_directive (nat_lt 0 (length s.rows)) s.heading key w (bytes_of text w))
+take_line text n s end = if s.heading.ended then Err BadLine else Ok (with_heading s (with_end s.heading))
+take_line text n s (row a b c d) = if s.heading.ended then Err BadLine else take_row text n s a b c d
 
 -- a line, if it says something
 abbrev pub take_said : List ℕ → ℕ → Seen → Result Line Refusal → Result Seen Refusal
@@ -148,9 +148,9 @@ unless_clash (Some n) x = Err (refused RowsDisagree n)
 -- what all lines say together, over a slice of so many cells, or why they are refused: the checks in their order
 abbrev pub conclusion : List ℕ → ℕ → Seen → Result Reading Refused
 conclusion text room s =
-    cond (mismatch text s) (Err (refused CountMismatch 0))
-    (cond (nat_lt room (cell_count s)) (Err (refused WorkTooShort 0))
-    (unless_clash s.clash (cond (complete s) (Ok (reading_of text s)) (Err (refused CellNotGiven 0)))))
+    if mismatch text s then Err (refused CountMismatch 0) else
+    if nat_lt room (cell_count s) then Err (refused WorkTooShort 0) else
+    unless_clash s.clash (if complete s then Ok (reading_of text s) else Err (refused CellNotGiven 0))
 
 -- the conclusion from lines that were not refused
 abbrev pub concluded : List ℕ → ℕ → Result Seen Refused → Result Reading Refused
@@ -160,5 +160,6 @@ concluded text room (Err e) = Err e
 -- what a text says, over slices of so many name entries and cells, or why it is refused
 abbrev pub reading : List ℕ → ℕ → ℕ → Result Reading Refused
 reading text entries room =
-    cond (nat_lt entries 256) (Err (refused WorkTooShort 0))
-    (cond (nat_lt 16384 (length text)) (Err (refused TextTooLong 0)) (concluded text room (take_lines text 1 nothing_seen (lines text))))
+    if nat_lt entries 256 then Err (refused WorkTooShort 0) else
+    if nat_lt 16384 (length text) then Err (refused TextTooLong 0) else
+    concluded text room (take_lines text 1 nothing_seen (lines text))

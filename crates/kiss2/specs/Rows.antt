@@ -1,5 +1,5 @@
 -- What the rows of a text say: digits, the numbers of states, and cells.
-use Rattle.std.specs.Prelude.{ℕ, ◌+◌, ◌*◌, Bool, true, false, cond, ◌&&◌, ◌||◌, List, [], ◌∷◌, ◌++◌, length, is_some, Some, None, fold, Option, if◌then◌else◌, ◌==◌, nat_lt}
+use Rattle.std.specs.Prelude.{ℕ, ◌+◌, ◌*◌, Bool, true, false, if◌then◌else◌, ◌&&◌, ◌||◌, List, [], ◌∷◌, ◌++◌, length, is_some, Some, None, fold, Option, ◌==◌, nat_lt}
 use Rattle.std.specs.Option.{unwrap_or}
 use Rattle.std.specs.Str.{bytes_eq}
 use Rattle.machine.specs.Lists.{all}
@@ -21,12 +21,12 @@ has_width width ds = length ds == width && all is_bit ds
 
 -- the output word that digits write, from the highest bit to the lowest; a dash reads as 0
 abbrev pub output_word : List ℕ → ℕ
-output_word ds = fold (λ n d. n * 2 + cond (d == 49) 1 0) 0 ds
+output_word ds = fold (λ n d. n * 2 + (if d == 49 then 1 else 0)) 0 ds
 
 -- the number of a name among the states named so far: its place, or how many there are where it is new
 abbrev pub number_of : List ℕ → List Part → List ℕ → ℕ
 number_of text [] name = 0
-number_of text (p ∷ ps) name = cond (bytes_eq (bytes_of text p) name) 0 (1 + number_of text ps name)
+number_of text (p ∷ ps) name = if bytes_eq (bytes_of text p) name then 0 else 1 + number_of text ps name
 
 -- the number of a name, where it is among the states named so far
 abbrev pub number_among : List ℕ → List Part → List ℕ → Option ℕ
@@ -34,7 +34,7 @@ number_among text ps name = if nat_lt (number_of text ps name) (length ps) then 
 
 -- the states named so far, with one more where its name is new
 abbrev pub named : List ℕ → List Part → Part → List Part
-named text ps p = cond (nat_lt (number_of text ps (bytes_of text p)) (length ps)) ps (ps ++ p ∷ [])
+named text ps p = if nat_lt (number_of text ps (bytes_of text p)) (length ps) then ps else ps ++ p ∷ []
 
 -- a row with its states as numbers
 pub record Transition : Type 0 where
@@ -46,7 +46,7 @@ pub record Transition : Type 0 where
 -- the places of the cells of state q whose letters the digits match: digits go from the highest bit to the lowest, and a dash matches both
 abbrev pub places : List ℕ → ℕ → List ℕ
 places [] q = q ∷ []
-places (d ∷ ds) q = cond (d == 45) (places ds (q * 2) ++ places ds (q * 2 + 1)) (places ds (q * 2 + cond (d == 49) 1 0))
+places (d ∷ ds) q = if d == 45 then places ds (q * 2) ++ places ds (q * 2 + 1) else places ds (q * 2 + (if d == 49 then 1 else 0))
 
 -- whether the number is in the list
 abbrev pub among : List ℕ → ℕ → Bool
@@ -60,7 +60,7 @@ cell_given t = record { next = t.next; output = t.output }
 -- the cell that the rows give at a place, if any does: that of the first that does
 abbrev pub given_at : List Transition → ℕ → Option Cell
 given_at [] k = None
-given_at (t ∷ ts) k = cond (among (places t.input t.current) k) (Some (cell_given t)) (given_at ts k)
+given_at (t ∷ ts) k = if among (places t.input t.current) k then Some (cell_given t) else given_at ts k
 
 -- whether two cells are the same
 abbrev pub same_cell : Cell → Cell → Bool
@@ -78,6 +78,6 @@ fits_rows ts t = all (λ k. agrees (given_at ts k) (cell_given t)) (places t.inp
 -- why a row with these words is refused by itself, if it is: the checks in their order
 abbrev pub row_refusal : Heading → List ℕ → List ℕ → List ℕ → List ℕ → Option Refusal
 row_refusal h input current next output =
-    cond (is_some h.inputs && is_some h.outputs)
-    (cond (has_width (unwrap_or h.inputs 0) input && has_width (unwrap_or h.outputs 0) output)
-    (cond (short_name current && short_name next) None (Some BadName)) (Some BadDigits)) (Some RowBeforeWidths)
+    if is_some h.inputs && is_some h.outputs then (
+    if has_width (unwrap_or h.inputs 0) input && has_width (unwrap_or h.outputs 0) output then (
+    if short_name current && short_name next then None else Some BadName) else Some BadDigits) else Some RowBeforeWidths

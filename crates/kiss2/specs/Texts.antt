@@ -1,5 +1,5 @@
 -- The lines of a text, and the words of a line.
-use Rattle.std.specs.Prelude.{◌≡◌, ℕ, ◌+◌, ◌-◌, ◌≤◌, Bool, true, false, cond, not, ◌||◌, List, [], ◌∷◌, length, take, drop, Some, None, Option, ◌==◌}
+use Rattle.std.specs.Prelude.{◌≡◌, ℕ, ◌+◌, ◌-◌, ◌≤◌, Bool, true, false, if◌then◌else◌, not, ◌||◌, List, [], ◌∷◌, length, take, drop, Some, None, Option, ◌==◌}
 use Rattle.std.specs.List.{prefix_len}
 use Rattle.kiss2.specs.declared.part.Part.{Part}
 use Rattle.kiss2.specs.declared.part.Word.{Word}
@@ -35,7 +35,7 @@ word_length s = prefix_len (λ b. not (ends_word b)) s
 -- the lines behind the line ends of s, which begins at place p
 abbrev pub lines_after : ℕ → List ℕ → List Part
 lines_after p [] = []
-lines_after p (b ∷ s) = cond (in_line b) (lines_after (p + 1) s) (part (p + 1) (line_length s) ∷ lines_after (p + 1) s)
+lines_after p (b ∷ s) = if in_line b then lines_after (p + 1) s else part (p + 1) (line_length s) ∷ lines_after (p + 1) s
 
 -- the lines of a text: the first, and one behind each line end
 abbrev pub lines : List ℕ → List Part
@@ -45,9 +45,10 @@ lines text = part 0 (line_length text) ∷ lines_after 0 text
 abbrev pub words_from : ℕ → Bool → List ℕ → List Part
 words_from p inside [] = []
 words_from p inside (b ∷ s) =
-    cond (b == 35) []
-    (cond (is_blank b) (words_from (p + 1) false s)
-    (cond inside (words_from (p + 1) true s) (part p (word_length (b ∷ s)) ∷ words_from (p + 1) true s)))
+    if b == 35 then [] else
+    if is_blank b then words_from (p + 1) false s else
+    if inside then words_from (p + 1) true s else
+    part p (word_length (b ∷ s)) ∷ words_from (p + 1) true s
 
 -- the words of a line
 abbrev pub words : List ℕ → Part → List Part

@@ -3,13 +3,13 @@
 
 mod digits;
 mod directives;
+mod filling;
 mod heading;
 mod line;
 mod names;
 mod naming;
 mod part;
-mod placing;
-mod progress;
+mod reader;
 mod reading;
 mod refused;
 mod scanning;

@@ -21,8 +21,13 @@ impl Part {
     pub fn bytes_in(self, text: &[u8]) -> &[u8]
         ensures { result.now ≡ bytes_of text.now self }
     {
-        let rest = &text[text.len().min(self.place as usize)..];
-        &rest[..rest.len().min(self.length as usize)]
+        let place = self.place as usize;
+        let end = place + self.length as usize;
+        if end <= text.len() {
+            &text[place..end]
+        } else {
+            &text[text.len().min(place)..]
+        }
     }
 }
 

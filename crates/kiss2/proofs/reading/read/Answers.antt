@@ -1,21 +1,26 @@
-use Rattle.std.proofs.Common.{◌≤◌, unwrap_or, sym, subst, arith}
-use Rattle.kiss2.specs.Placing.{table}
-use Rattle.kiss2.specs.declared.heading.Heading.{Heading}
-use Rattle.kiss2.proofs.Conclusions.{held_width, read_is}
-use Rattle.kiss2.proofs.Stepping.{held_few}
+use Rattle.std.proofs.Common.{◌≡◌, ℕ, Bor, List, length, Result, sym, ap, ◌∙◌, subst, rules, arith}
+use Rattle.devices.specs.declared.cell.Cell.{Cell}
+use Rattle.kiss2.specs.Concluding.{Read, shape_held}
+use Rattle.kiss2.specs.Readers.{filled, progress}
+use Rattle.kiss2.specs.declared.part.Part.{Part}
+use Rattle.kiss2.specs.declared.refused.Refused.{Refused}
+use Rattle.kiss2.specs.declared.shape.Shape.{Shape}
+use Rattle.kiss2.proofs.Conclusions.{read_is}
 use Rattle.kiss2.proofs.reading.read.Goals as goal
 
-pub conclude-requires : goal.conclude-requires
-conclude-requires c =
-    let x = c.in_ok-progress.ensures in
-    record {
-      few = held_few x.2 x.3;
-      names = omega (arith, c.if-names-lt-STATES.false, c.read_lines.auto.names);
-      width = subst (λ (h : Heading). unwrap_or h.inputs 0 ≤ 6) (sym x.3.heading) (held_width x.2);
-      given = c.read_lines.auto.given;
-    }
+-- what was read into the slices, where these are what the caller has
+same_read : (text : List ℕ) (cells : List Cell) (names : List Part) (r : Result Shape Refused) (after after' : List Cell) (ns ns' : List Part) → Read text cells names r after' ns' → after ≡ after' → ns ≡ ns' → Read text cells names r after ns
+same_read text cells names r after after' ns ns' read e f =
+    subst (λ (x : List Cell). Read text cells names r x ns) (sym e) (subst (λ (x : List Part). Read text cells names r after' x) (sym f) read)
 
 pub returns : goal.returns
 returns c =
-    let x = c.in_ok-progress.ensures in
-    read_is c.args.text.now c.args.cells.now c.args.names.now c.in_ok-progress.progress c.read_lines.new.names (table c.read_lines.new.cells c.read_lines.new.given) x.0 x.2 x.3 x.1 c.if-names-lt-STATES.false c.if-text-gt-TEXT.false c.read_lines.auto.given c.read_lines.auto.cells c.conclude.result c.conclude.ensures
+    let text = c.args.text.now in
+    let r = c.read_lines.new.self in
+    let names = c.read_lines.new.names in
+    let t = c.read_lines.new.table in
+    let x = c.in_ok-read_lines.ensures.read in
+    let same = c.read_lines.ensures.text in
+    same_read text c.args.cells.now c.args.names.now c.conclude.result _ t.cells.now _ names.entries.now
+    (read_is text c.args.cells.now c.args.names.now (progress r names t) names.entries.now (filled t) x.0 x.2 x.3 x.1 c.if-names-lt-STATES.false (omega (arith, names.short, ap (λ (b : Bor (List ℕ)). length b.now) same)) t.whole c.read_lines.ensures.size c.conclude.result (c.conclude.ensures ∙ ap (λ (b : Bor (List ℕ)). shape_held b.now (progress r names t) names.entries.now (length t.cells.now) t.given) same))
+    (search rules) (search rules)

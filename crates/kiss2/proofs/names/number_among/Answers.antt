@@ -4,7 +4,7 @@ use Rattle.std.proofs.lemmas.Iterator.{YieldsList-from_slice}
 use Rattle.std.proofs.lemmas.Iterator.Search.{position_from_yields_List}
 use Rattle.kiss2.specs.Texts.{bytes_of}
 use Rattle.kiss2.proofs.Entries.{number_is}
-use Rattle.kiss2.proofs.names.number_of.Goals as goal
+use Rattle.kiss2.proofs.names.number_among.Goals as goal
 
 pub returns : goal.returns
 returns c =

@@ -1,0 +1,212 @@
+ghost use Rattle.std.specs.Prelude.{◌≡◌, ◌+◌, ◌^◌, ◌<◌, ◌≤◌, false, length, take, replicate};
+ghost use Rattle.kiss2.specs.Concluding.{shape_held};
+ghost use Rattle.kiss2.specs.Lines.{LineStands, RowStands, line_of, line_said};
+ghost use Rattle.kiss2.specs.Progressing.{LinesRead, nothing_read};
+ghost use Rattle.kiss2.specs.Readers.{Reads, SameLoans, Steps, filled, progress};
+ghost use Rattle.kiss2.specs.Readings.{miscounted, take_line, take_row, take_said};
+ghost use Rattle.kiss2.specs.Texts.{part_of, words_left};
+ghost use Rattle.std.specs.Option.{unwrap_or};
+
+use crate::digits::output_word;
+use crate::filling::Filling;
+use crate::heading::Heading;
+use crate::line::{Line, Row, parse_line};
+use crate::names::Names;
+use crate::refused::Refused;
+use crate::scanning::line_length;
+use crate::shape::Shape;
+use devices::Cell;
+use machine::Refusal;
+
+// Where a line begins, and its number.
+#[derive(Clone, Copy)]
+struct LineStart {
+    place: usize,
+    number: usize,
+}
+
+impl LineStart {
+    // The first line. Lines are counted from 1.
+    fn first() -> LineStart
+        ensures { result ≡ record { place = 0; number = 1 } }
+    {
+        LineStart {
+            place: 0,
+            number: 1,
+        }
+    }
+
+    // The line behind the line end at `end`.
+    fn next(self, end: usize) -> LineStart
+        requires { (self.number < 2 ^ 32) × (end < 2 ^ 32) }
+        ensures { result ≡ record { place = end + 1; number = self.number + 1 } }
+    {
+        LineStart {
+            place: end + 1,
+            number: self.number + 1,
+        }
+    }
+}
+
+// Whether a count is stated that is not the one found.
+fn miscounted(stated: Option<u32>, found: usize) -> bool
+    ensures { result ≡ miscounted stated found }
+{
+    stated.is_some_and(|count| count as usize != found)
+}
+
+// A reader of lines: what the directives have said so far, and how many rows there are. The states and the cells go into the names and the table.
+// These are handed to each call: of a slice that a struct inside another struct borrows, only the length is known once the loan ends.
+#[derive(Clone, Copy, Debug, Default)]
+pub(crate) struct Reader {
+    pub(crate) heading: Heading,
+    pub(crate) rows: usize,
+}
+
+impl Reader {
+    // Takes a row at a line: its states get their numbers, and its cells are given.
+    fn take_row(
+        &mut self,
+        names: &mut Names,
+        table: &mut Filling,
+        line: usize,
+        row: Row,
+    ) -> Result<(), Refusal>
+        requires stands { RowStands names.old.text.now row }
+        requires unended { self.old.heading.ended ≡ false }
+        requires reads { Reads self.old names.old table.old }
+        ensures taken { Steps (λ s. take_row names.old.text.now line s (part_of row.entry.input) (part_of row.entry.current) (part_of row.entry.next) (part_of row.entry.output)) self.old names.old table.old result self.new names.new table.new }
+        ensures more { self.new.rows ≤ self.old.rows + 1 }
+        ensures lent { SameLoans names.old table.old names.new table.new }
+    {
+        self.heading.check(row)?;
+        let (first, second) = row.states();
+        let (current, next) = names.number_both(first, second)?;
+        let cell = Cell {
+            next,
+            output: output_word(row.output.bytes),
+        };
+        table.give_row(line, row.input.bytes, current, cell);
+        self.rows += 1;
+        Ok(())
+    }
+
+    // Takes what a line says. Only blank lines follow the end.
+    fn take_line(
+        &mut self,
+        names: &mut Names,
+        table: &mut Filling,
+        line: usize,
+        said: Line,
+    ) -> Result<(), Refusal>
+        requires stands { LineStands names.old.text.now said }
+        requires reads { Reads self.old names.old table.old }
+        ensures taken { Steps (λ s. take_line names.old.text.now line s (line_said said.entry)) self.old names.old table.old result self.new names.new table.new }
+        ensures more { self.new.rows ≤ self.old.rows + 1 }
+        ensures lent { SameLoans names.old table.old names.new table.new }
+    {
+        match said {
+            Line::Blank => Ok(()),
+            Line::Directive { key, value } => {
+                self.heading = self.heading.take(self.rows > 0, key, value)?;
+                Ok(())
+            }
+            Line::End => {
+                self.heading = self.heading.close()?;
+                Ok(())
+            }
+            Line::Row(row) => {
+                if self.heading.ended {
+                    return Err(Refusal::BadLine);
+                }
+                self.take_row(names, table, line, row)
+            }
+        }
+    }
+
+    // Reads the line from `start` to `end` and takes what it says.
+    fn read_line(
+        &mut self,
+        names: &mut Names,
+        table: &mut Filling,
+        start: usize,
+        end: usize,
+        line: usize,
+    ) -> Result<(), Refusal>
+        requires ordered { start ≤ end }
+        requires inside { end ≤ length names.old.text.now }
+        requires reads { Reads self.old names.old table.old }
+        ensures taken { Steps (λ s. take_said names.old.text.now line s (line_of names.old.text.now (words_left names.old.text.now start end))) self.old names.old table.old result self.new names.new table.new }
+        ensures more { self.new.rows ≤ self.old.rows + 1 }
+        ensures lent { SameLoans names.old table.old names.new table.new }
+    {
+        let said = parse_line(names.text, start, end)?;
+        self.take_line(names, table, line, said)
+    }
+
+    // Reads the lines one after another, up to the first that is refused.
+    pub(crate) fn read_lines(
+        &mut self,
+        names: &mut Names,
+        table: &mut Filling,
+    ) -> Result<(), Refused>
+        requires nothing { progress self.old names.old table.old ≡ nothing_read }
+        requires ungiven { table.old.given ≡ replicate 16384 false }
+        ensures read { LinesRead names.old.text.now table.old.cells.now names.old.entries.now result (progress self.new names.new table.new) names.new.entries.now (filled table.new) }
+        ensures names_lent { names.new.entries.ghost_name ≡ names.old.entries.ghost_name }
+        ensures cells_lent { table.new.cells.ghost_name ≡ table.old.cells.ghost_name }
+        ensures text { names.new.text ≡ names.old.text }
+        ensures size { length table.new.cells.now ≡ length table.old.cells.now }
+    {
+        let text = names.text;
+        let mut start = LineStart::first();
+        loop {
+            let place = start.place;
+            let line = start.number;
+            let end = place + line_length(&text[place..]);
+            if let Err(refusal) = self.read_line(names, table, place, end, line) {
+                return Err(Refused { refusal, line });
+            }
+            if end == text.len() {
+                return Ok(());
+            }
+            start = start.next(end);
+        }
+    }
+
+    // The shape of the table once all lines are read.
+    pub(crate) fn conclude(&self, names: &Names, table: &Filling) -> Result<Shape, Refused>
+        requires width { unwrap_or self.now.heading.inputs 0 ≤ 6 }
+        ensures { result ≡ shape_held names.now.text.now (progress self.now names.now table.now) names.now.entries.now (length table.now.cells.now) table.now.given }
+    {
+        let heading = self.heading;
+        let states = names.count;
+        if miscounted(heading.rows, self.rows) || miscounted(heading.states, states as usize) {
+            return Err(Refusal::CountMismatch.into());
+        }
+        let reset = names
+            .reset_state(heading.reset)
+            .ok_or(Refusal::CountMismatch)?;
+        let shape = Shape {
+            inputs: heading.inputs.unwrap_or(0),
+            outputs: heading.outputs.unwrap_or(0),
+            rows: self.rows,
+            states,
+            reset: reset as u16,
+        };
+        let cells = shape.cell_count();
+        if table.cells.len() < cells {
+            return Err(Refusal::WorkTooShort.into());
+        }
+        if let Some(line) = table.clash {
+            return Err(Refused {
+                refusal: Refusal::RowsDisagree,
+                line,
+            });
+        }
+        if self.rows == 0 || !table.all_given(cells) {
+            return Err(Refusal::CellNotGiven.into());
+        }
+        Ok(shape)
+    }
+}
