@@ -1,9 +1,0 @@
-ghost use Rattle.std.specs.Prelude.{◌≡◌};
-ghost use Rattle.machine.specs.Outputs.{differ};
-
-// Whether two output words differ.
-pub fn outputs_differ(x: u32, y: u32) -> bool
-    ensures { result ≡ differ x y }
-{
-    x != y
-}
