@@ -17,13 +17,6 @@ pub held_from_none : (k : ℕ) (xs : List Bool) → held_from 0 k xs ≡ xs
 held_from_none k [] = refl
 held_from_none k (x ∷ xs) = rw (held_none k x, held_from_none (k + 1) xs)
 
--- a write to the front of a list
-pub take_written : (m : ℕ) (xs : List Bool) (i : ℕ) (x : Bool) → take m (set xs i x) ≡ set (take m xs) i x
-take_written zero xs i x = refl
-take_written (suc m) [] i x = refl
-take_written (suc m) (y ∷ xs) zero x = refl
-take_written (suc m) (y ∷ xs) (suc i) x = ap (λ (ys : List Bool). y ∷ ys) (take_written m xs i x)
-
 module _ (a n : ℕ) (v : Bool) (here : (x : Bool) → held a n x ≡ v) (other : (m : ℕ) (x : Bool) → (m ≡ n → ⊥) → held a m x ≡ x) where
   -- the stuck net is none of a list's
   held_from_other : (k : ℕ) (xs : List Bool) → (n < k) ⊎ (k + length xs ≤ n) → held_from a k xs ≡ xs

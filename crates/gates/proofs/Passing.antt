@@ -1,6 +1,6 @@
 -- A pass over gates that are in order.
-use Rattle.std.proofs.Common.{◌≡◌, ℕ, zero, suc, ◌+◌, ◌<◌, ◌≤◌, Bool, true, List, [], ◌∷◌, length, get_or, drop, set, sym, ap, ◌∙◌, subst, add_assoc, arith}
-use Rattle.std.proofs.lemmas.List.{drop_more, drop_all}
+use Rattle.std.proofs.Common.{◌≡◌, ℕ, zero, suc, ◌+◌, ◌<◌, Bool, true, List, [], ◌∷◌, length, get_or, drop, set, sym, ap, ◌∙◌, subst, add_assoc, arith}
+use Rattle.std.proofs.lemmas.List.{drop_more}
 use Rattle.std.proofs.lemmas.Bool.{and_parts, ltb-true}
 use Rattle.gates.specs.Nets.{gate_at}
 use Rattle.gates.specs.Passes.{passed}
@@ -37,7 +37,3 @@ passed_more nets n gs i h =
     let on : List Bool = set nets (n + i) (gate_at nets (get_or gs i no_gate)) in
     ap (λ (m : ℕ). passed on m (drop (i + 1) gs)) (sym (add_assoc n i 1))
     ∙ ap (λ (rest : List Gate). passed nets (n + i) rest) (sym (drop_more gs i no_gate h))
-
--- no gate is left
-pub passed_none : (nets : List Bool) (n : ℕ) (gs : List Gate) (i : ℕ) → length gs ≤ i → passed nets (n + i) (drop i gs) ≡ nets
-passed_none nets n gs i h = ap (λ (rest : List Gate). passed nets (n + i) rest) (drop_all i gs h)

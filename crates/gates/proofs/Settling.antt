@@ -1,6 +1,7 @@
 -- A pass over all gates gives the values of all nets.
 use Rattle.std.proofs.Common.{◌≡◌, ℕ, zero, suc, ◌+◌, ◌-◌, ◌*◌, ◌/◌, ◌%◌, ◌<◌, ◌≤◌, Bool, true, false, eqb, List, [], ◌∷◌, ◌++◌, length, take, drop, set, sym, refl, ap, ◌∙◌, subst, arith}
 use Rattle.std.proofs.lemmas.List.{take_more_set, length-set, length-take-le, length-drop, get_or-take}
+use Rattle.std.proofs.Math.Seq.{take-set-lt}
 use Rattle.std.proofs.lemmas.Bool.{and_parts, and_from}
 use Rattle.gates.specs.Words.{bits}
 use Rattle.gates.specs.Nets.{held, held_from, gate_at, with_gates}
@@ -8,7 +9,7 @@ use Rattle.gates.specs.Passes.{passed, passed_held}
 use Rattle.gates.specs.Rules.{gate_ordered, gates_ordered}
 use Rattle.gates.specs.declared.gate.Gate.{Gate}
 use Rattle.gates.proofs.Passing.{reads_lower}
-use Rattle.gates.proofs.Holding.{held_none, held_from_none, held_here, held_other, stuck_evaluated, take_written}
+use Rattle.gates.proofs.Holding.{held_none, held_from_none, held_here, held_other, stuck_evaluated}
 
 -- the first k gates are in order
 pub ordered_take : (n k : ℕ) (gs : List Gate) → gates_ordered n gs ≡ true → gates_ordered n (take k gs) ≡ true
@@ -82,7 +83,7 @@ fault_settled nets n gs o room a h l =
     subst (λ (m : ℕ). with_gates a (held_from a 0 (take n nets)) gs ≡ with_gates 0 (set (with_gates 0 (take n nets) (take (net + 1 - m) gs)) net v) (drop (net + 1 - m) gs)) count
     (stuck_evaluated a net v (held_here a h) (held_other a h) (take n nets) gs (omega arith)) in
     back_is (set up_to net v) n gs o kept k few
-    ∙ ap (λ (ns : List Bool). with_gates 0 ns (drop k gs)) (take_written (n + k) up_to net v)
+    ∙ ap (λ (ns : List Bool). with_gates 0 ns (drop k gs)) (take-set-lt (n + k) up_to net v (omega arith))
     ∙ ap (λ (ns : List Bool). with_gates 0 (set ns net v) (drop k gs)) (front_is nets n gs o room k few)
     ∙ sym split
 

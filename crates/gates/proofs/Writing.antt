@@ -1,6 +1,6 @@
 -- The loop that writes the bits of a word.
-use Rattle.std.proofs.Common.{◌≡◌, ℕ, zero, suc, ◌+◌, ◌-◌, ◌/◌, ◌%◌, ◌<◌, ◌≤◌, Bool, eqb, List, [], ◌∷◌, ◌++◌, length, take, set, sym, ap, ◌∙◌, subst, add_assoc, arith}
-use Rattle.std.proofs.lemmas.List.{take_more_set, append_assoc, append-nil}
+use Rattle.std.proofs.Common.{◌≡◌, ℕ, zero, suc, ◌+◌, ◌-◌, ◌/◌, ◌%◌, ◌<◌, Bool, eqb, List, [], ◌∷◌, ◌++◌, length, take, set, sym, ap, ◌∙◌, subst, add_assoc, arith}
+use Rattle.std.proofs.lemmas.List.{take_more_set, append_assoc}
 use Rattle.gates.specs.Words.{bits}
 
 -- the lowest bit and those above it
@@ -19,10 +19,3 @@ module _ (nets : List Bool) (first count rest j : ℕ) where
       ap (λ (ns : List Bool). ns ++ bits (count - (j + 1)) (rest / 2)) front
       ∙ append_assoc (take (first + j) nets) (b ∷ []) (bits (count - (j + 1)) (rest / 2))
       ∙ ap (λ (back : List Bool). take (first + j) nets ++ back) (sym more)
-
-  -- none is left
-  pub bits_written : j ≤ count → count ≤ j → take (first + j) nets ++ bits (count - j) rest ≡ take (first + count) nets
-  bits_written h l =
-      let e : j ≡ count = omega arith in
-      let none : count - j ≡ 0 = omega arith in
-      ap (λ (n : ℕ). take (first + j) nets ++ bits n rest) none ∙ append-nil (take (first + j) nets) ∙ ap (λ (k : ℕ). take (first + k) nets) e
