@@ -1,7 +1,6 @@
 pub mod Alls
 pub mod Scans
 pub mod Lining
-pub mod Decimals
 pub mod Numbers
 pub mod Giving
 pub mod Entries
