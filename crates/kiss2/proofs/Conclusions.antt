@@ -168,7 +168,7 @@ room_for text room s x none e =
     (λ fits. fits)
     (cases_lt room (cell_count s))
 
-pub held_width : {text : List ℕ} {s : Seen} → Sound text s → unwrap_or s.heading.inputs 0 ≤ 6
+held_width : {text : List ℕ} {s : Seen} → Sound text s → unwrap_or s.heading.inputs 0 ≤ 6
 held_width {s = s} sound = go s.heading.inputs sound.inputs
   where
     go : (o : Option ℕ) → WidthUpto 6 o → unwrap_or o 0 ≤ 6

@@ -1,8 +1,9 @@
 -- The numbers of names, and the list of names with one more.
-use Rattle.std.proofs.Common.{◌≡◌, ℕ, zero, suc, ◌+◌, ◌<◌, ◌≤◌, Bool, true, false, cond, ltb, ◌⊎◌, List, [], ◌∷◌, ◌++◌, length, sym, refl, ap, ◌∙◌, inl, inr, one-add, arith}
+use Rattle.std.proofs.Common.{◌≡◌, ℕ, ◌<◌, ◌≤◌, Bool, true, false, cond, not, ltb, ◌⊎◌, List, [], ◌∷◌, ◌++◌, length, sym, refl, ap, ◌∙◌, subst, inl, inr, ⊎_elim, arith}
 use Rattle.std.specs.List.{position_or_len}
 use Rattle.std.specs.Str.{bytes_eq}
 use Rattle.std.proofs.lemmas.List.Recursion.{is_position_or_len}
+use Rattle.std.proofs.lemmas.List.Sums.{fails_before_first, passes_at_first, prefix_len-le-length}
 use Rattle.std.proofs.lemmas.Slice.Eq.{bytes_eq-Decides}
 use Rattle.std.proofs.lemmas.List.{length_push, get_or_push, get_or_append_left}
 use Rattle.std.proofs.lemmas.Bool.{both_ways, cases_lt, ltb-true, ltb-false}
@@ -19,40 +20,33 @@ Apart text ps = (q p : ℕ) → q < length ps → p < length ps → bytes_of tex
 pub number_is : (text : List ℕ) (name : List ℕ) (ps : List Part) → number_of text ps name ≡ position_or_len (λ p. bytes_eq (bytes_of text p) name) ps
 number_is text name = is_position_or_len (λ qs. number_of text qs name) (λ p. bytes_eq (bytes_of text p) name) refl (λ x qs. refl)
 
--- the number of a name is at most the count of names
-pub number_upto : (text : List ℕ) (ps : List Part) (name : List ℕ) → number_of text ps name ≤ length ps
-number_upto text [] name = omega arith
-number_upto text (p ∷ ps) name = go (bytes_eq (bytes_of text p) name) (number_upto text ps name)
-  where
-    go : (t : Bool) → number_of text ps name ≤ length ps → cond t 0 (1 + number_of text ps name) ≤ suc (length ps)
-    go true more = omega arith
-    go false more = omega arith
+module _ (text : List ℕ) (ps : List Part) (name : List ℕ) where
+  -- whether an entry has the name
+  has_name : Part → Bool
+  has_name p = bytes_eq (bytes_of text p) name
 
--- the entry at the number of a name has that name
-pub number_entry : (text : List ℕ) (ps : List Part) (name : List ℕ) → number_of text ps name < length ps → bytes_of text (entry_at ps (number_of text ps name)) ≡ name
-number_entry text [] name h = absurd (omega arith)
-number_entry text (p ∷ ps) name h = go (bytes_eq (bytes_of text p) name) refl h (number_entry text ps name)
-  where
-    n : ℕ
-    n = number_of text ps name
+  -- the number of a name is at most the count of names
+  pub number_upto : number_of text ps name ≤ length ps
+  unfolding has_name
+  number_upto = subst (λ (n : ℕ). n ≤ length ps) (sym (number_is text name ps)) (prefix_len-le-length (λ p. not (has_name p)) ps)
 
-    go : (t : Bool) → bytes_eq (bytes_of text p) name ≡ t → cond t 0 (1 + n) < suc (length ps) → (n < length ps → bytes_of text (entry_at ps n) ≡ name) → bytes_of text (entry_at (p ∷ ps) (cond t 0 (1 + n))) ≡ name
-    go true e k more = (bytes_eq-Decides (bytes_of text p) name).0 e
-    go false e k more = rw one-add (more (omega arith))
+  -- the entry at the number of a name has that name
+  pub number_entry : number_of text ps name < length ps → bytes_of text (entry_at ps (number_of text ps name)) ≡ name
+  unfolding has_name
+  number_entry h =
+      let first : ℕ = position_or_len has_name ps in
+      let is : number_of text ps name ≡ first = number_is text name ps in
+      subst (λ (n : ℕ). bytes_of text (entry_at ps n) ≡ name) (sym is) ((bytes_eq-Decides (bytes_of text (entry_at ps first)) name).0 (passes_at_first has_name ps (part 0 0) (omega (arith, is, h))))
 
--- the number of a name is that of the first entry with it
-pub number_first : (text : List ℕ) (ps : List Part) (name : List ℕ) (q : ℕ) → q < length ps → bytes_of text (entry_at ps q) ≡ name → number_of text ps name ≤ q
-number_first text [] name q h e = absurd (omega arith)
-number_first text (p ∷ ps) name zero h e = go (bytes_eq (bytes_of text p) name) refl
-  where
-    go : (t : Bool) → bytes_eq (bytes_of text p) name ≡ t → cond t 0 (1 + number_of text ps name) ≤ 0
-    go true f = omega arith
-    go false f = absurd (both_ways _ f ((bytes_eq-Decides (bytes_of text p) name).1 e))
-number_first text (p ∷ ps) name (suc q) h e = go (bytes_eq (bytes_of text p) name) (number_first text ps name q (omega arith) e)
-  where
-    go : (t : Bool) → number_of text ps name ≤ q → cond t 0 (1 + number_of text ps name) ≤ suc q
-    go true more = omega arith
-    go false more = omega arith
+  -- the number of a name is that of the first entry with it
+  pub number_first : (q : ℕ) → q < length ps → bytes_of text (entry_at ps q) ≡ name → number_of text ps name ≤ q
+  unfolding has_name
+  number_first q h e =
+      let is : number_of text ps name ≡ position_or_len has_name ps = number_is text name ps in
+      ⊎_elim
+      (λ (less : q < number_of text ps name). absurd (both_ways _ (fails_before_first has_name ps q (part 0 0) (omega (arith, is, less))) ((bytes_eq-Decides (bytes_of text (entry_at ps q)) name).1 e)))
+      (λ more. more)
+      (cases_lt q (number_of text ps name))
 
 -- the names are the old ones, which have the name of p, or have p behind them, whose name is new
 abbrev pub Added : List ℕ → List Part → Part → List Part → Type 0

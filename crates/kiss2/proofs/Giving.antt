@@ -1,7 +1,7 @@
 -- Giving cells one after another, and what the rows give together.
-use Rattle.std.proofs.Common.{◌≡◌, ℕ, ◌+◌, ◌-◌, ◌*◌, ◌%◌, ◌^◌, ◌<◌, ◌≤◌, cond, eqb, List, [], ◌∷◌, ◌++◌, length, get_or, take, drop, Some, None, Ok, Err, Option, Result, sym, refl, ap, ◌∙◌, mul-le-mul_right, mod-eq_of_lt, mul_assoc, mul_comm, mul-le-mul, mul-le-mul_left, arith, pow_pos, pow_mono, pow-add}
+use Rattle.std.proofs.Common.{◌≡◌, ℕ, ◌+◌, ◌-◌, ◌*◌, ◌^◌, ◌<◌, ◌≤◌, List, [], ◌∷◌, ◌++◌, length, get_or, take, drop, Some, None, Ok, Err, Option, Result, sym, refl, ap, ◌∙◌, mul-le-mul_right, mul_assoc, mul_comm, mul-le-mul, arith, pow_mono, pow-add}
 use Rattle.std.proofs.lemmas.Slice.{first_rest}
-use Rattle.std.proofs.lemmas.Bool.{cond-true, cond-false, eq-eqb, ne_eqb}
+use Rattle.std.proofs.lemmas.Bool.{cond-true, eq-eqb}
 use Rattle.machine.specs.declared.refusal.Refusal.{Refusal}
 use Rattle.devices.specs.declared.cell.Cell.{Cell}
 use Rattle.kiss2.specs.Rows.{places}
@@ -15,11 +15,6 @@ put_append c (k ∷ ks) js t = go (put_at c k t) (put_append c ks js)
     go : (x : Option Table) → ((u : Table) → put_all c (ks ++ js) u ≡ and_then (put_all c ks u) (put_all c js)) → and_then x (put_all c (ks ++ js)) ≡ and_then (and_then x (put_all c ks)) (put_all c js)
     go None more = refl
     go (Some u) more = more u
-
--- a single place
-pub placed_one : (c : Cell) (k : ℕ) (t : Table) (r : Result Unit Refusal) (u : Table) → Placed (put_at c k t) r u → Placed (put_all c (k ∷ []) t) r u
-placed_one c k t (Ok _) u e = ap (λ (x : Option Table). and_then x (put_all c [])) e
-placed_one c k t (Err d) u e = (ap (λ (x : Option Table). and_then x (put_all c [])) e.0, e.1)
 
 -- some places, and then others
 pub placed_both : (c : Cell) (ks js : List ℕ) (t u : Table) (r : Result Unit Refusal) (v : Table) → put_all c ks t ≡ Some u → Placed (put_all c js u) r v → Placed (put_all c (ks ++ js) t) r v
@@ -38,12 +33,6 @@ room_halves p q n m size h e k =
     let less : q + 1 ≤ (p + 1) * 2 = omega arith in
     omega (arith, mul-le-mul_right (2 ^ m) less, same, k)
 
--- a place is well below what a number can be
-pub longer_small : (p n size : ℕ) → (p + 1) * 2 ^ n ≤ size → size ≤ 16384 → p < 2 ^ 60
-longer_small p n size h k =
-    let one : 1 ≤ 2 ^ n = pow_pos n in
-    omega (arith, mul-le-mul_left (p + 1) one, h, k)
-
 -- the digits behind the first
 abbrev pub rest_of : List ℕ → List ℕ
 rest_of ds = take (length ds - 1) (drop 1 ds)
@@ -59,14 +48,6 @@ rest_shorter ds h = ap length (first_digit ds h) ∙ omega arith
 pub places_dash : (ds : List ℕ) (q : ℕ) → 0 < length ds → get_or ds 0 0 ≡ 45 → places ds q ≡ places (rest_of ds) (q * 2) ++ places (rest_of ds) (q * 2 + 1)
 places_dash ds q h e = ap (λ (s : List ℕ). places s q) (first_digit ds h) ∙ cond-true _ _ _ (eq-eqb _ 45 e)
 
--- any other digit by its own
-pub places_bit : (ds : List ℕ) (q b : ℕ) → 0 < length ds → (get_or ds 0 0 ≡ 45 → ⊥) → b ≡ cond (eqb (get_or ds 0 0) 49) 1 0 → places ds q ≡ places (rest_of ds) (q * 2 + b)
-places_bit ds q b h ne e = ap (λ (s : List ℕ). places s q) (first_digit ds h) ∙ cond-false _ _ _ (ne_eqb _ 45 ne) ∙ ap (λ (i : ℕ). places (rest_of ds) (q * 2 + i)) (sym e)
-
 -- a table has at most 16,384 cells
 pub cells_few : (n k : ℕ) → n ≤ 256 → k ≤ 6 → n * 2 ^ k ≤ 16384
 cells_few n k h l = let most : 2 ^ k ≤ 2 ^ 6 = pow_mono l in mul-le-mul h most
-
--- so their number does not overflow
-pub cells_fit : (n k : ℕ) → n ≤ 256 → k ≤ 6 → n * 2 ^ k % 2 ^ 64 ≡ n * 2 ^ k
-cells_fit n k h l = mod-eq_of_lt (omega (arith, cells_few n k h l))

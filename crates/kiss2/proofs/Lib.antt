@@ -1,8 +1,6 @@
 pub mod Alls
-pub mod Fronts
 pub mod Scans
 pub mod Lining
-pub mod Decimals
 pub mod Numbers
 pub mod Giving
 pub mod Entries

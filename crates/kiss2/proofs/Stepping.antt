@@ -2,11 +2,11 @@
 use Rattle.std.proofs.Common.{◌≡◌, ℕ, ◌+◌, ◌<◌, ◌≤◌, Bool, true, false, cond, eqb, ltb, leb, List, [], ◌∷◌, ◌++◌, length, take, Some, None, Ok, Err, Option, Result, unwrap_or, sym, refl, ap, ◌∙◌, subst, ⊎_elim, arith}
 use Rattle.std.specs.List.{AllByRecursion}
 use Rattle.std.proofs.lemmas.List.{length_push}
-use Rattle.std.proofs.lemmas.Bool.{and_parts, cond-true, cond-false, eqb-true, le-leb, lt-leb}
+use Rattle.std.proofs.lemmas.Bool.{and_parts, cond-true, cond-false, eqb-true, le-leb}
 use Rattle.machine.specs.declared.refusal.Refusal.{Refusal}
 use Rattle.machine.specs.declared.refusal.Refusal.TheVariants.{BadLine, BadName}
 use Rattle.devices.specs.declared.cell.Cell.{Cell}
-use Rattle.kiss2.specs.Laws.{Inside, entry_at}
+use Rattle.kiss2.specs.Laws.{Inside}
 use Rattle.kiss2.specs.Headings.{take_directive, with_end}
 use Rattle.kiss2.specs.Lines.{Line, directive, end, row}
 use Rattle.kiss2.specs.Placing.{Table}
@@ -26,13 +26,6 @@ use Rattle.kiss2.proofs.Soundness.{RowFits, row_fits, sound_line}
 -- the names that are held are those of the states
 pub names_held : {old_cells : List Cell} {old_names : List Part} {p : Progress} {names : List Part} {t : Table} {s : Seen} → Holds old_cells old_names p names t s → take p.states names ≡ s.names
 names_held {s = s} h = first_are s.names _ _ _ h.names_stand h.states
-
--- they are few and lie in the text
-pub held_few : {text : List ℕ} {old_cells : List Cell} {old_names : List Part} {p : Progress} {names : List Part} {t : Table} {s : Seen} → Sound text s → Holds old_cells old_names p names t s → p.states ≤ 256
-held_few sound h = omega (arith, sound.few_names, h.states)
-
-pub held_inside : {text : List ℕ} {old_cells : List Cell} {old_names : List Part} {p : Progress} {names : List Part} {t : Table} {s : Seen} → Sound text s → Holds old_cells old_names p names t s → (q : ℕ) → q < p.states → Inside text (entry_at (take p.states names) q)
-held_inside {text} sound h q k = subst (λ (ps : List Part). Inside text (entry_at ps q)) (sym (names_held h)) (sound.names_inside q (omega (arith, k, h.states)))
 
 -- the table once a row was given, where all cells of all rows lie in it
 clash_more : (old : List Cell) (n : ℕ) (ts : List Transition) (tr : Transition) (clash r : Option ℕ) (t u : Table) → (clash ≡ None → Filled old ts t) → RowRoom (length t.cells) tr → RowRoom (length t.given) tr → Gave clash n tr t r u → (r ≡ or_else clash (cond (fits_rows ts tr) None (Some n))) × (or_else clash (cond (fits_rows ts tr) None (Some n)) ≡ None → Filled old (ts ++ tr ∷ []) u)
@@ -73,12 +66,6 @@ module _ (text : List ℕ) (old_cells : List Cell) (old_names : List Part) (p : 
 
   checked : (o : Option Refusal) → refusal_of text p.heading a b c d ≡ o → take_row text n s a b c d ≡ unless o (unrefused text n s a b c d)
   checked o e = ap (λ (x : Option Refusal). unless x (unrefused text n s a b c d)) (ap (λ (h : Heading). refusal_of text h a b c d) (sym holds.heading) ∙ e)
-
-  -- a row that brings a 257th state
-  pub row_one_too_many : refusal_of text p.heading a b c d ≡ None → 256 < length (names_with text (take p.states names) b c) → take_row text n s a b c d ≡ Err BadName
-  row_one_too_many e h =
-      let more : 256 < length (names_with text s.names b c) = subst (λ (ps : List Part). 256 < length (names_with text ps b c)) (names_held holds) h in
-      checked None e ∙ cond-false (leb (length (names_with text s.names b c)) 256) _ _ (lt-leb (length (names_with text s.names b c)) 256 more)
 
   -- a row that is taken
   pub row_step : s.heading.ended ≡ false → Inside text a × Inside text b × Inside text c × Inside text d → refusal_of text p.heading a b c d ≡ None → (m : ℕ × ℕ) (names' : List Part) (count : ℕ) → BothEnlisted text (take p.states names) b c names (Ok m) names' count → (input : List ℕ) (output : ℕ) → input ≡ bytes_of text a → output ≡ output_word (bytes_of text d) → RowRoom (length t.given) (numbered input m output) → (r : Option ℕ) (u : Table) → Gave p.clash n (numbered input m output) t r u → length u.cells ≡ length t.cells → (s' : Seen) × (take_row text n s a b c d ≡ Ok s') × Sound text s' × Holds old_cells old_names (record { heading = p.heading; states = count; rows = p.rows + 1; clash = r }) names' u s'

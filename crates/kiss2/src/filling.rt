@@ -51,7 +51,7 @@ impl<'a> Filling<'a> {
         ensures size { length self.new.cells.now ≡ length self.old.cells.now }
         ensures lent { self.new.cells.ghost_name ≡ self.old.cells.ghost_name }
     {
-        if digits.len() == 0 {
+        if digits.is_empty() {
             return self.give(place, cell);
         }
         let digit = digits[0];

@@ -1,4 +1,4 @@
-ghost use Rattle.std.specs.Prelude.{◌≡◌, ◌^◌, ◌<◌, length};
+ghost use Rattle.std.specs.Prelude.{◌≡◌, ◌^◌, ◌<◌, length, drop};
 ghost use Rattle.kiss2.specs.Sides.{lies_in};
 ghost use Rattle.kiss2.specs.Texts.{bytes_of, part_of};
 
@@ -7,6 +7,15 @@ ghost use Rattle.kiss2.specs.Texts.{bytes_of, part_of};
 pub struct Part {
     pub place: u16,
     pub length: u16,
+}
+
+// The bytes of the text from a place on. It is cold: a part mostly lies in its text, and the test for that is then all that it costs.
+#[cold]
+#[inline(never)]
+fn rest_of(text: &[u8], place: usize) -> &[u8]
+    ensures { result.now ≡ drop place text.now }
+{
+    &text[text.len().min(place)..]
 }
 
 impl Part {
@@ -26,7 +35,7 @@ impl Part {
         if end <= text.len() {
             &text[place..end]
         } else {
-            &text[text.len().min(place)..]
+            rest_of(text, place)
         }
     }
 }

@@ -1,4 +1,4 @@
-use Rattle.std.proofs.Common.{◌≡◌, ℕ, ◌+◌, ◌*◌, ◌<◌, ◌≤◌, true, eqb, List, ◌++◌, length, get_or, refl, sym, ap, ◌∙◌, subst, arith}
+use Rattle.std.proofs.Common.{◌≡◌, ℕ, ◌+◌, ◌*◌, ◌<◌, ◌≤◌, true, eqb, List, ◌++◌, length, get_or, refl, sym, ap, ◌∙◌, subst, arith, rules, tests}
 use Rattle.std.proofs.lemmas.Bool.{eqb-true}
 use Rattle.std.proofs.lemmas.Result.{err_from_is_err_and}
 use Rattle.kiss2.specs.Placing.{Placed, put_all, table}
@@ -8,13 +8,13 @@ use Rattle.kiss2.proofs.filling.Filling.+give_all.Goals as goal
 
 pub give_all-requires : goal.give_all-requires
 give_all-requires t c =
-    let less = rest_shorter c.args.digits.now (omega (arith, c.if-digits-eq0.false)) in
+    let less = rest_shorter c.args.digits.now (search (rules, tests)) in
     let small : c.longer.result ≤ c.args.place * 2 + 1 = omega (arith, c.longer.ensures) in
     (omega (arith, less, c.decreases), (room_halves c.args.place c.longer.result _ _ _ small less c.requires.cells, room_halves c.args.place c.longer.result _ _ _ small less c.requires.few))
 
 pub give_all-requires-then-matches_both : goal.give_all-requires-then-matches_both
 give_all-requires-then-matches_both t c =
-    let less = rest_shorter c.args.digits.now (omega (arith, c.if-digits-eq0.false)) in
+    let less = rest_shorter c.args.digits.now (search (rules, tests)) in
     let place = c.longer-then-matches_both.result in
     let small : place ≤ c.args.place * 2 + 1 = omega (arith, c.longer-then-matches_both.ensures) in
     let cells = room_halves c.args.place place _ _ _ small less c.requires.cells in
@@ -22,7 +22,7 @@ give_all-requires-then-matches_both t c =
 
 pub give_all-requires-else-matches_both : goal.give_all-requires-else-matches_both
 give_all-requires-else-matches_both t c =
-    let less = rest_shorter c.args.digits.now (omega (arith, c.if-digits-eq0.false)) in
+    let less = rest_shorter c.args.digits.now (search (rules, tests)) in
     let place = c.longer-else-matches_both.result in
     let small : place ≤ c.args.place * 2 + 1 = omega (arith, c.longer-else-matches_both.ensures, c.bit_of.ensures.bound) in
     (omega (arith, less, c.decreases), (room_halves c.args.place place _ _ _ small less c.requires.cells, room_halves c.args.place place _ _ _ small less c.requires.few))
@@ -40,7 +40,7 @@ returns-in_err-give_all-clause-put t c =
     let before = table c.args.self.now.cells.now c.args.self.now.given in
     let p = err_from_is_err_and c.from_residual.result c.from_residual.ensures.1 in
     let e = c.in_err-give_all.ensures.put in
-    let both = both_bits ds c.args.place c.longer.result (c.args.place * 2 + 1) (omega (arith, c.if-digits-eq0.false)) (sym c.if-matches_both.ensures) c.longer.ensures refl in
+    let both = both_bits ds c.args.place c.longer.result (c.args.place * 2 + 1) (search (rules, tests)) (sym c.if-matches_both.ensures) c.longer.ensures refl in
     rw (p.1, p.2) (
       ap (λ (ks : List ℕ). put_all c.args.cell ks before) both ∙ placed_stops c.args.cell (places (rest_of ds) c.longer.result) (places (rest_of ds) (c.args.place * 2 + 1)) before e.0,
       e.1,
@@ -52,6 +52,6 @@ returns-in_ok-give_all-clause-put t c =
     let before = table c.args.self.now.cells.now c.args.self.now.given in
     let between = table c.give_all.new.self.cells.now c.give_all.new.self.given in
     let last = c.give_all-then-matches_both.new.self in
-    let both = both_bits ds c.args.place c.longer.result c.longer-then-matches_both.result (omega (arith, c.if-digits-eq0.false)) (sym c.if-matches_both.ensures) c.longer.ensures c.longer-then-matches_both.ensures in
+    let both = both_bits ds c.args.place c.longer.result c.longer-then-matches_both.result (search (rules, tests)) (sym c.if-matches_both.ensures) c.longer.ensures c.longer-then-matches_both.ensures in
     subst (λ (ks : List ℕ). Placed (put_all c.args.cell ks before) c.give_all-then-matches_both.result (table last.cells.now last.given)) (sym both)
     (placed_both c.args.cell (places (rest_of ds) c.longer.result) (places (rest_of ds) c.longer-then-matches_both.result) before between c.give_all-then-matches_both.result (table last.cells.now last.given) c.in_ok-give_all.ensures.put c.give_all-then-matches_both.ensures.put)

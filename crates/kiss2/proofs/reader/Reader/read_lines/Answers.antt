@@ -44,25 +44,6 @@ loop-refusal-init c =
       seen = (nothing_seen, subst (From names.text.now nothing_seen) (sym e) refl, sound_nothing names.text.now, subst (λ (p : Progress). Holds t.cells.now names.entries.now p names.entries.now (filled t) nothing_seen) (sym c.requires.nothing) (holds_nothing t.cells.now names.entries.now t.given c.requires.ungiven));
     }
 
-pub read_line-requires : goal.read_line-requires
-read_line-requires c =
-    let inv = c.loop-refusal.invariant in
-    let r = c.loop-refusal.self in
-    let names = c.loop-refusal.names in
-    let t = c.loop-refusal.table in
-    let text = c.args.names.now.text.now in
-    let place = c.loop-refusal.start.place in
-    let same : names.text.now ≡ text = ap (λ (b : Bor (List ℕ)). b.now) inv.lent.text in
-    let inside = line_ends text place _ inv.inside (ends text place c.line_length.result c.line_length.ensures.value) in
-    record {
-      ordered = omega arith;
-      inside = omega (arith, inside, ap length same);
-      reads = record {
-        held = subst (λ (x : List ℕ). Held x (progress r names t) names.entries.now (filled t)) (sym same) (c.args.table.now.cells.now, (c.args.names.now.entries.now, (inv.seen.0, inv.seen.2, inv.seen.3)));
-        few_rows = omega (arith, inv.inside, inv.numbered, inv.few_rows, c.args.names.now.short);
-      };
-    }
-
 pub returns-in-Err-clause-read : goal.returns-in-Err-clause-read
 returns-in-Err-clause-read c =
     let inv = c.loop-refusal.invariant in
@@ -125,11 +106,3 @@ loop-refusal-preserved c =
       lent = record { text = c.read_line.ensures.lent.text ∙ inv.lent.text; entries = c.read_line.ensures.lent.entries ∙ inv.lent.entries; cells = c.read_line.ensures.lent.cells ∙ inv.lent.cells; size = c.read_line.ensures.lent.size ∙ inv.lent.size };
       seen = (x.0, subst (From text x.0) (sym e) (sym (next_taken text place _ inv.inside is n s x.0 x.1 c.if-end-text.false) ∙ inv.seen.1), x.2, x.3);
     }
-
-pub next-start-requires : goal.next-start-requires
-next-start-requires c =
-    let inv = c.loop-refusal.invariant in
-    let text = c.args.names.now.text.now in
-    let place = c.loop-refusal.start.place in
-    let inside = line_ends text place _ inv.inside (ends text place c.line_length.result c.line_length.ensures.value) in
-    (omega (arith, inv.inside, inv.numbered, c.args.names.now.short), omega (arith, inside, c.args.names.now.short))
