@@ -29,11 +29,18 @@ impl<'a, D: Device> Checker<'a, D> {
         }
     }
 
+    // What is wrong at one pair, at the least of the first letters.
+    fn check_letters(&self, place: usize, pair: Pair, letters: u8) -> Option<Flaw>
+        ensures { result ≡ flaw_at_letters (D.meaning self.now.product.device.now) self.now.product.first self.now.product.second (has_pair self.now.listed.now) place pair 0 letters }
+    {
+        (0..letters).find_map(|letter| self.check_letter(place, pair, letter))
+    }
+
     // What is wrong at one pair, at the least letter.
     fn check_pair(&self, place: usize, pair: Pair) -> Option<Flaw>
         ensures { let m = D.meaning self.now.product.device.now in result ≡ flaw_at_letters m self.now.product.first self.now.product.second (has_pair self.now.listed.now) place pair 0 m.letters }
     {
-        (0..self.product.letters()).find_map(|letter| self.check_letter(place, pair, letter))
+        self.check_letters(place, pair, self.product.letters())
     }
 
     // What is wrong at the least place of the list whose pairs these are.
