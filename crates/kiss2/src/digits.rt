@@ -40,7 +40,8 @@ pub(crate) fn bit_of(digit: u8) -> u8
 
 // A number with one bit more behind it: the leftmost digit comes first and is the highest bit.
 pub(crate) fn longer(number: usize, bit: u8) -> usize
-    requires { (number < 2 ^ 60) × (bit ≤ 1) }
+    requires number { number < 2 ^ 60 }
+    requires bit { bit ≤ 1 }
     ensures { result ≡ number * 2 + bit }
 {
     number * 2 + bit as usize

@@ -26,9 +26,9 @@ fn decimal(bytes: &[u8]) -> u32
     requires { is_count bytes.now ≡ true }
     ensures { result ≡ decimal bytes.now }
 {
-    let mut number: u32 = 0;
+    let mut number = 0;
     for byte in bytes {
-        number = number * 10 + (*byte - b'0') as u32;
+        number = number * 10 + u32::from(*byte - b'0');
     }
     number
 }
@@ -41,7 +41,7 @@ pub(crate) fn count_of(bytes: &[u8], least: u32, most: u32) -> Result<u32, Refus
         return Err(Refusal::BadLine);
     }
     let count = decimal(bytes);
-    if count < least || count > most {
+    if !(least..=most).contains(&count) {
         return Err(Refusal::BadLine);
     }
     Ok(count)
@@ -56,7 +56,8 @@ pub(crate) fn short_name(bytes: &[u8]) -> bool
 
 // The part of the text that the name of a reset state is.
 pub(crate) fn reset_name(name: Word) -> Result<Part, Refusal>
-    requires { (name.place < 2 ^ 16) × (length name.bytes.now < 2 ^ 16) }
+    requires place { name.place < 2 ^ 16 }
+    requires length { length name.bytes.now < 2 ^ 16 }
     ensures { result ≡ reset_name (part_of name.entry) name.entry.bytes.now }
 {
     if opens_with_stop(name.bytes) {

@@ -36,7 +36,8 @@ impl Heading {
 
     // The heading with the directive.
     fn with(self, key: Key, value: Word) -> Result<Heading, Refusal>
-        requires { (value.place < 2 ^ 16) × (length value.bytes.now < 2 ^ 16) }
+        requires place { value.place < 2 ^ 16 }
+        requires length { length value.bytes.now < 2 ^ 16 }
         ensures { result ≡ with_directive self key (part_of value.entry) value.entry.bytes.now }
     {
         let mut heading = self;
@@ -52,7 +53,8 @@ impl Heading {
 
     // The heading with a directive that comes before the first row and the end and once, or a refusal.
     pub(crate) fn take(self, started: bool, key: Key, value: Word) -> Result<Heading, Refusal>
-        requires { (value.place < 2 ^ 16) × (length value.bytes.now < 2 ^ 16) }
+        requires place { value.place < 2 ^ 16 }
+        requires length { length value.bytes.now < 2 ^ 16 }
         ensures { result ≡ (if self.ended then Err Refusal.BadLine else take_directive started self key (part_of value.entry) value.entry.bytes.now) }
     {
         if self.ended || started || self.has(key) {
@@ -68,9 +70,10 @@ impl Heading {
         if self.ended {
             return Err(Refusal::BadLine);
         }
-        let mut heading = self;
-        heading.ended = true;
-        Ok(heading)
+        Ok(Heading {
+            ended: true,
+            ..self
+        })
     }
 
     // Refuses a row that breaks a rule by itself.

@@ -37,7 +37,8 @@ pub struct Row<'t> {
 impl<'t> Row<'t> {
     // The states that the row names, in the order in which they are numbered.
     pub(crate) fn states(self) -> (Word<'t>, Word<'t>)
-        ensures { (result.0 ≡ self.entry.current) × (result.1 ≡ self.entry.next) }
+        ensures current { result.0 ≡ self.entry.current }
+        ensures next { result.1 ≡ self.entry.next }
     {
         (self.current, self.next)
     }
@@ -112,7 +113,8 @@ fn row_of<'t>(input: Word<'t>, words: &mut Words<'t>) -> Result<Line<'t>, Refusa
 
 // What the line from `start` to `end` says: its first word decides.
 pub(crate) fn parse_line<'t>(text: &'t [u8], start: usize, end: usize) -> Result<Line<'t>, Refusal>
-    requires { (start ≤ end) × (end ≤ length text.now) }
+    requires ordered { start ≤ end }
+    requires inside { end ≤ length text.now }
     ensures { ReadsAs text.now (line_of text.now (words_left text.now start end)) result }
 {
     let mut words = Words {

@@ -19,6 +19,8 @@ fn is_name(text: &[u8], part: Part, name: &[u8]) -> bool
 }
 
 // The number of the name among the entries, if it is among them.
+// Inlined with its callers: reading a text takes most of its time here.
+#[inline(always)]
 fn number_among(text: &[u8], entries: &[Part], name: &[u8]) -> Option<usize>
     ensures { result ≡ number_among text.now entries.now name.now }
 {
@@ -38,6 +40,7 @@ pub(crate) struct Names<'t, 'a> {
 
 impl<'t, 'a> Names<'t, 'a> {
     // The number of the name, if a state has it.
+    #[inline(always)]
     fn number_of(&self, name: &[u8]) -> Option<usize>
         ensures { result ≡ number_among self.now.text.now (take self.now.count self.now.entries.now) name.now }
     {
@@ -46,6 +49,7 @@ impl<'t, 'a> Names<'t, 'a> {
     }
 
     // The number of the state that the word names: a new name is entered behind the others. A 257th is refused.
+    #[inline(always)]
     fn number(&mut self, word: Word) -> Result<u16, Refusal>
         requires { Stands self.old.text.now word }
         ensures enlisted { Enlisted self.old.text.now (take self.old.count self.old.entries.now) (part_of word.entry) self.old.entries.now result self.new.entries.now self.new.count }

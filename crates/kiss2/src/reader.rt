@@ -38,7 +38,8 @@ impl LineStart {
 
     // The line behind the line end at `end`.
     fn next(self, end: usize) -> LineStart
-        requires { (self.number < 2 ^ 32) × (end < 2 ^ 32) }
+        requires number { self.number < 2 ^ 32 }
+        requires end { end < 2 ^ 32 }
         ensures { result ≡ record { place = end + 1; number = self.number + 1 } }
     {
         LineStart {

@@ -55,7 +55,8 @@ pub(crate) struct Words<'t> {
     pub(crate) text: &'t [u8],
     pub(crate) at: usize,
     pub(crate) end: usize,
-    ghost ok: { (at ≤ end) × (end ≤ length text.now) },
+    ghost ordered: { at ≤ end },
+    ghost inside: { end ≤ length text.now },
 }
 
 impl<'t> Iterator for Words<'t> {

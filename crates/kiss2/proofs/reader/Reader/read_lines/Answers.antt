@@ -3,7 +3,7 @@ use Rattle.std.proofs.lemmas.List.{take_rest}
 use Rattle.machine.specs.declared.refusal.Refusal.{Refusal}
 use Rattle.kiss2.specs.Lines.{line_of}
 use Rattle.kiss2.specs.Placing.{Table}
-use Rattle.kiss2.specs.Progressing.{Held, Holds, Progress, Stepped}
+use Rattle.kiss2.specs.Progressing.{Holds, Progress, Stepped}
 use Rattle.kiss2.specs.Readers.{filled, progress}
 use Rattle.kiss2.specs.Readings.{Seen, nothing_seen, take_lines, take_said}
 use Rattle.kiss2.specs.Texts.{line_length, lines, words_left}

@@ -43,7 +43,7 @@ returns-clause-taken c = λ old_cells old_names s sound holds.
     let row : Row = c.args.row in
     let m : ℕ × ℕ = (c.in_ok-current.current, c.in_ok-current.next) in
     let narrow = input_width sound holds row.input.bytes.now row.current.bytes.now row.next.bytes.now row.output.bytes.now c.in_ok-check.ensures.fits in
-    let both = in_order text (take names.count names.entries.now) c.states.result.0 c.states.result.1 row.current row.next names.entries.now (Ok m) _ _ c.states.ensures.0 c.states.ensures.1 c.in_ok-current.ensures.enlisted in
+    let both = in_order text (take names.count names.entries.now) c.states.result.0 c.states.result.1 row.current row.next names.entries.now (Ok m) _ _ c.states.ensures.current c.states.ensures.next c.in_ok-current.ensures.enlisted in
     let small = current_small text (take names.count names.entries.now) (part_of row.current) (part_of row.next) names.entries.now m _ _ both in
     row_step text old_cells old_names (progress r names t) names.entries.now (filled t) s sound holds c.args.line (part_of row.input) (part_of row.current) (part_of row.next) (part_of row.output)
     (ap (λ (h : Heading). h.ended) (sym holds.heading) ∙ c.requires.unended)
