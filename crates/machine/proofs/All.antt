@@ -1,7 +1,8 @@
 -- A loop over a list that stops at the first element that fails a test.
-use Rattle.std.proofs.Common.{◌≡◌, ℕ, zero, suc, ◌+◌, ◌<◌, ◌≤◌, Bool, true, false, ◌&&◌, List, [], ◌∷◌, length, get_or, drop, sym, ap, ◌∙◌, arith}
+use Rattle.std.proofs.Common.{◌≡◌, ℕ, ◌+◌, ◌<◌, ◌≤◌, Bool, true, false, ◌&&◌, List, length, get_or, drop, sym, ap, ◌∙◌}
 use Rattle.std.proofs.lemmas.List.{at_drop_more, at_drop_all}
-use Rattle.std.proofs.lemmas.Bool.{and_parts}
+use Rattle.std.proofs.lemmas.List.Elements.{All-get_or}
+use Rattle.std.proofs.lemmas.List.Sums.{AllPass-from_list_all}
 use Rattle.machine.specs.Lists.{all}
 
 module _ {X : Type 0} (test : X → Bool) (xs : List X) (i : ℕ) (d : X) where
@@ -19,6 +20,4 @@ all_ends test xs i h = at_drop_all (all test) xs i h
 
 -- what holds of all holds of each
 pub all_at : {X : Type 0} (test : X → Bool) (xs : List X) (i : ℕ) (d : X) → i < length xs → all test xs ≡ true → test (get_or xs i d) ≡ true
-all_at test [] i d h p = absurd (omega arith)
-all_at test (x ∷ xs) zero d h p = (and_parts _ _ p).0
-all_at test (x ∷ xs) (suc i) d h p = all_at test xs i d (omega arith) (and_parts (test x) _ p).1
+all_at test xs i d h p = All-get_or (λ x. test x ≡ true) xs i d h (AllPass-from_list_all test xs p)

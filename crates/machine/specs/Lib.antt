@@ -5,3 +5,4 @@ pub mod Outputs
 pub mod Products
 pub mod Slices
 pub mod Refusals
+pub mod Pins

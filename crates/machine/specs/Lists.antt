@@ -1,7 +1,7 @@
 -- Tests over lists.
-use Rattle.std.specs.Prelude.{Bool, true, ◌&&◌, List, [], ◌∷◌}
+use Rattle.std.specs.Prelude.{Bool, List}
+use Rattle.std.specs.List.{list_all}
 
 -- whether each element passes the test
 abbrev pub all : {X : Type 0} → (X → Bool) → List X → Bool
-all test [] = true
-all test (x ∷ xs) = test x && all test xs
+all test xs = list_all test xs

@@ -1,57 +1,56 @@
-ghost use Rattle.std.specs.Prelude.{◌≡◌};
+ghost use Rattle.std.specs.Prelude.{◌≡◌, ◌++◌, Some, codes, decimal};
 ghost use Rattle.machine.specs.Refusals.{refusal_number};
 
-// Why a call was refused.
-#[derive(Clone, Copy, PartialEq, Eq, Debug)]
+use std::error::Error;
+use std::fmt;
+
+// Why a call was refused; each refusal has the fixed number that callers see.
+#[derive(Clone, Copy, PartialEq, Eq, PartialOrd, Ord, Hash, Debug)]
 pub enum Refusal {
-    TextTooLong,
-    BadLine,
-    RowBeforeWidths,
-    BadDigits,
-    BadName,
-    RowsDisagree,
-    CellNotGiven,
-    CountMismatch,
-    OutsideDeviceRules,
-    BadAlteredCell,
-    NoSuchMember,
-    OutOfRange,
-    BadSequence,
-    WorkTooShort,
-    AnswerTooShort,
-    WidthsDiffer,
-    FaultNotOpen,
-    SequencesFull,
-    LettersFull,
-    NoSuchSequence,
+    TextTooLong = 1,
+    BadLine = 2,
+    RowBeforeWidths = 3,
+    BadDigits = 4,
+    BadName = 5,
+    RowsDisagree = 6,
+    CellNotGiven = 7,
+    CountMismatch = 8,
+    OutsideDeviceRules = 9,
+    BadAlteredCell = 10,
+    NoSuchMember = 11,
+    OutOfRange = 12,
+    BadSequence = 13,
+    WorkTooShort = 14,
+    AnswerTooShort = 15,
+    WidthsDiffer = 16,
+    FaultNotOpen = 21,
+    SequencesFull = 22,
+    LettersFull = 23,
+    NoSuchSequence = 24,
 }
 
 impl Refusal {
-    // The fixed number that callers see.
     pub fn number(self) -> u8
         ensures { result ≡ refusal_number self }
     {
-        match self {
-            Refusal::TextTooLong => 1,
-            Refusal::BadLine => 2,
-            Refusal::RowBeforeWidths => 3,
-            Refusal::BadDigits => 4,
-            Refusal::BadName => 5,
-            Refusal::RowsDisagree => 6,
-            Refusal::CellNotGiven => 7,
-            Refusal::CountMismatch => 8,
-            Refusal::OutsideDeviceRules => 9,
-            Refusal::BadAlteredCell => 10,
-            Refusal::NoSuchMember => 11,
-            Refusal::OutOfRange => 12,
-            Refusal::BadSequence => 13,
-            Refusal::WorkTooShort => 14,
-            Refusal::AnswerTooShort => 15,
-            Refusal::WidthsDiffer => 16,
-            Refusal::FaultNotOpen => 21,
-            Refusal::SequencesFull => 22,
-            Refusal::LettersFull => 23,
-            Refusal::NoSuchSequence => 24,
-        }
+        self as u8
     }
 }
+
+impl From<Refusal> for u8 {
+    ghost from_gives = { λ refusal n. n ≡ refusal_number refusal };
+
+    fn from(refusal: Refusal) -> u8 {
+        refusal.number()
+    }
+}
+
+impl fmt::Display for Refusal {
+    ghost output = { λ refusal. Some (codes "refused " ++ decimal (refusal_number refusal)) };
+
+    fn fmt<W: fmt::Write>(&self, f: &mut fmt::Formatter<W>) -> fmt::Result {
+        write!(f, "refused {}", self.number())
+    }
+}
+
+impl Error for Refusal {}

@@ -1,12 +1,12 @@
-ghost use Rattle.std.specs.Prelude.{◌≡◌, ◌+◌, ◌*◌, ◌<◌};
-ghost use Rattle.machine.specs.Machines.{Machine};
-ghost use Rattle.devices.specs.Cells.{good_cell};
+ghost use Rattle.std.specs.Prelude.{◌≡◌, ◌+◌, ◌-◌, ◌*◌, ◌<◌, ◌↔◌, length, IsNone, IfSome, slice_index_or};
+ghost use Rattle.machine.specs.Machines.{Machine, within};
+ghost use Rattle.devices.specs.Cells.{good_cell, no_altered_cell};
 ghost use Rattle.devices.specs.Tables.{machine_of};
 ghost use Rattle.devices.specs.Soundness.{table_sound};
 
-use crate::cell::Cell;
+use crate::cell::{AlteredCell, Cell};
 use crate::table::Table;
-use machine::Device;
+use machine::{Device, within};
 
 // The place of the cell of a state and a letter.
 fn place(letters: u8, state: u16, letter: u8) -> usize
@@ -18,10 +18,20 @@ fn place(letters: u8, state: u16, letter: u8) -> usize
 impl<'a> Table<'a> {
     // The good cell of a state and a letter in range.
     fn good_cell(&self, state: u16, letter: u8) -> Cell
-        requires { (state < self.now.states) × (letter < self.now.letters) }
+        requires state { state < self.now.states }
+        requires letter { letter < self.now.letters }
         ensures { result ≡ good_cell self.now.letters self.now.cells.now state letter }
     {
         self.cells[place(self.letters, state, letter)]
+    }
+
+    // The altered cell of a member that is a fault.
+    fn altered_cell(&self, member: u16) -> Option<AlteredCell>
+        ensures none { IsNone result ↔ (within (length self.now.altered.now + 1) member ≡ 0) }
+        ensures some { IfSome result (λ altered. altered ≡ slice_index_or self.now.altered.now (member - 1) no_altered_cell) }
+    {
+        let fault = usize::from(member).checked_sub(1)?;
+        self.altered.get(fault).copied()
     }
 }
 
@@ -47,15 +57,16 @@ impl<'a> Device for Table<'a> {
     }
 
     fn step(&self, member: u16, state: u16, letter: u8) -> (u16, u32) {
-        let state = if state < self.states { state } else { 0 };
-        let letter = if letter < self.letters { letter } else { 0 };
-        if 0 < member && member as usize <= self.altered.len() {
-            let altered = self.altered[member as usize - 1];
-            if altered.state == state && altered.letter == letter {
-                return (altered.next, altered.output);
+        let state = within(self.states, state);
+        let letter = within(self.letters, letter);
+        match self.altered_cell(member) {
+            Some(altered) if altered.state == state && altered.letter == letter => {
+                (altered.next, altered.output)
+            }
+            _ => {
+                let good = self.good_cell(state, letter);
+                (good.next, good.output)
             }
         }
-        let good = self.good_cell(state, letter);
-        (good.next, good.output)
     }
 }
