@@ -1,5 +1,5 @@
 -- A closed list shows that two members are equivalent, and the reachable pairs of equivalent members are a closed list.
-use Rattle.std.proofs.Common.{◌≡◌, ℕ, zero, suc, ◌<◌, Bool, true, false, cond, List, [], ◌∷◌, ◌++◌, length, get_or, Ok, Err, unwrap_or, sym, refl, ap, ◌∙◌, subst, arith}
+use Rattle.std.proofs.Common.{◌≡◌, ℕ, zero, suc, ◌<◌, Bool, true, false, cond, List, [], ◌∷◌, ◌++◌, length, get_or, None, Some, Ok, Err, sym, refl, ap, ◌∙◌, subst, arith}
 use Rattle.std.proofs.lemmas.List.{length_push}
 use Rattle.std.proofs.lemmas.Bool.{cond-true, and_from, lt-ltb, or_left, or_right}
 use Rattle.machine.specs.Lists.{all}
@@ -12,21 +12,21 @@ use Rattle.machine.specs.declared.refusal.Refusal.TheVariants.{NoSuchMember, Out
 use Rattle.compare.specs.Checks.{pair_inside, pairs_inside, listed, next_pair, flaw_at_places, finding, checked}
 use Rattle.compare.specs.Replays.{are_members}
 use Rattle.machine.proofs.Ranges.{reset_below, next_below}
-use Rattle.compare.specs.declared.finding.Finding.TheVariants.{Closed, NoResetPair}
-use Rattle.compare.proofs.Flaws.{Good, places_good, good_places, closed_none}
+use Rattle.compare.specs.declared.flaw.Flaw.TheVariants.{NoResetPair}
+use Rattle.compare.proofs.Flaws.{Good, places_good, good_places}
 use Rattle.compare.proofs.Pairs.{differ_from}
 use Rattle.compare.proofs.Tables.{same_pair, same_pair_self}
 
-module _ (m : Machine) (a b : ℕ) (ps : List Pair) (closed : finding m a b ps ≡ Closed) where
+module _ (m : Machine) (a b : ℕ) (ps : List Pair) (closed : finding m a b ps ≡ None) where
   has_reset : listed ps (reset_pair m a b) ≡ true
   has_reset = go (listed ps (reset_pair m a b)) refl closed
     where
-      go : (t : Bool) → listed ps (reset_pair m a b) ≡ t → cond t (unwrap_or (flaw_at_places m a b (listed ps) 0 ps) Closed) NoResetPair ≡ Closed → t ≡ true
+      go : (t : Bool) → listed ps (reset_pair m a b) ≡ t → cond t (flaw_at_places m a b (listed ps) 0 ps) (Some NoResetPair) ≡ None → t ≡ true
       go true e o = refl
-      go false e o = absurd (let z : ◌≡◌ {A = ℕ} 0 1 = cc in omega arith)
+      go false e o = absurd cc
 
   good : (p : Pair) → listed ps p ≡ true → (l : ℕ) → l < m.letters → Good m a b (listed ps) p l
-  good = places_good m a b (listed ps) ps 0 (closed_none m a b (listed ps) 0 ps (sym (cond-true (listed ps (reset_pair m a b)) (unwrap_or (flaw_at_places m a b (listed ps) 0 ps) Closed) NoResetPair has_reset) ∙ closed))
+  good = places_good m a b (listed ps) ps 0 (sym (cond-true (listed ps (reset_pair m a b)) (flaw_at_places m a b (listed ps) 0 ps) (Some NoResetPair) has_reset) ∙ closed)
 
   alike_from : (s : List ℕ) (p : Pair) → listed ps p ≡ true → Letters m.letters s → (k : ℕ) → k < length s → differ_from m a b p s k ≡ false
   alike_from [] p h c k low = absurd (omega arith)
@@ -36,13 +36,13 @@ module _ (m : Machine) (a b : ℕ) (ps : List Pair) (closed : finding m a b ps �
   pub closed_equivalent : Equivalent m a b
   closed_equivalent s h k low = alike_from s (reset_pair m a b) has_reset h k low
 
-pub checked_equivalent : (m : Machine) (a b : ℕ) (ps : List Pair) → checked m a b ps ≡ Ok Closed → Equivalent m a b
+pub checked_equivalent : (m : Machine) (a b : ℕ) (ps : List Pair) → checked m a b ps ≡ Ok None → Equivalent m a b
 checked_equivalent m a b ps e = go (are_members m a b) (pairs_inside m.states ps) e
   where
-    go : (t u : Bool) → cond t (cond u (Ok (finding m a b ps)) (Err OutOfRange)) (Err NoSuchMember) ≡ Ok Closed → Equivalent m a b
-    go true true o = let f : finding m a b ps ≡ Closed = cc in closed_equivalent m a b ps f
-    go true false o = absurd (let z : ◌≡◌ {A = ℕ} 0 1 = cc in omega arith)
-    go false u o = absurd (let z : ◌≡◌ {A = ℕ} 0 1 = cc in omega arith)
+    go : (t u : Bool) → cond t (cond u (Ok (finding m a b ps)) (Err OutOfRange)) (Err NoSuchMember) ≡ Ok None → Equivalent m a b
+    go true true o = closed_equivalent m a b ps cc
+    go true false o = absurd cc
+    go false u o = absurd cc
 
 -- one letter more
 letters_push : (n : ℕ) (s : List ℕ) (l : ℕ) → Letters n s → l < n → Letters n (s ++ l ∷ [])
@@ -83,11 +83,11 @@ module _ (m : Machine) (sound : Sound m) (a b : ℕ) (same : Equivalent m a b) (
       let next : pair_at m a b ps y.0 ≡ next_pair m a b (pair_after m a b s) l = y.2 ∙ ap (λ n. pair n (state_from m b (reset_of m b) (s ++ l ∷ []))) (state_push m a (reset_of m a) s l) ∙ ap (λ n. pair (step_of m a (state_from m a (reset_of m a) s) l).0 n) (state_push m b (reset_of m b) s l) in
       subst (λ (p : Pair). Good m a b (listed ps) p l) here (agree, listed_at ps y.0 (reset_pair m a b) _ y.1 next)
 
-  pub reachable_closed : finding m a b ps ≡ Closed
+  pub reachable_closed : finding m a b ps ≡ None
   reachable_closed =
       let x = all_pairs.every [] tt in
-      cond-true (listed ps (reset_pair m a b)) _ NoResetPair (listed_at ps x.0 (reset_pair m a b) (reset_pair m a b) x.1 x.2)
-      ∙ ap (λ o. unwrap_or o Closed) (good_places m a b (listed ps) ps 0 (reset_pair m a b) reached_good)
+      cond-true (listed ps (reset_pair m a b)) _ (Some NoResetPair) (listed_at ps x.0 (reset_pair m a b) (reset_pair m a b) x.1 x.2)
+      ∙ good_places m a b (listed ps) ps 0 (reset_pair m a b) reached_good
 
   pub reachable_inside : pairs_inside m.states ps ≡ true
   reachable_inside = all_from (pair_inside m.states) ps (reset_pair m a b) (λ k low.

@@ -1,24 +1,26 @@
 -- A replay, letter by letter.
-use Rattle.std.proofs.Common.{◌≡◌, ℕ, ◌+◌, ◌<◌, true, false, cond, List, length, get_or, drop, Some, Option, sym, ap, ◌∙◌}
-use Rattle.std.proofs.lemmas.List.{drop_more}
+use Rattle.std.proofs.Common.{◌≡◌, ℕ, ◌+◌, Bool, true, false, cond, List, ◌∷◌, Some, None, Option, refl, ap}
 use Rattle.machine.specs.Machines.{Machine, step_of}
 use Rattle.machine.specs.Outputs.{differ, outputs_from, difference_from}
+use Rattle.machine.specs.Products.{pair}
+use Rattle.machine.specs.declared.pair.Pair.{Pair}
+use Rattle.compare.specs.Walks.{pair_step}
 
--- the first difference along s, counted from k on, with a in state p and b in state q
-abbrev pub left : Machine → ℕ → ℕ → ℕ → ℕ → ℕ → List ℕ → Option ℕ
-left m a b k p q s = difference_from k (outputs_from m a p s) (outputs_from m b q s)
+-- the first difference along s, counted from k on, from the pair p on
+abbrev pub left : Machine → ℕ → ℕ → ℕ → Pair → List ℕ → Option ℕ
+left m a b k p s = difference_from k (outputs_from m a p.first s) (outputs_from m b p.second s)
 
-module _ (m : Machine) (a b k p q : ℕ) (x y : ℕ × ℕ) (s : List ℕ) (inside : k < length s)
-    (is_x : x ≡ step_of m a p (get_or s k 0)) (is_y : y ≡ step_of m b q (get_or s k 0)) where
-  -- one step, by what the two members answer
-  stepped : left m a b k p q (drop k s) ≡ cond (differ x.1 y.1) (Some k) (left m a b (k + 1) x.0 y.0 (drop (k + 1) s))
-  stepped =
-      ap (left m a b k p q) (drop_more s k 0 inside)
-      ∙ ap (λ (z : ℕ × ℕ). cond (differ z.1 (step_of m b q (get_or s k 0)).1) (Some k) (left m a b (k + 1) z.0 (step_of m b q (get_or s k 0)).0 (drop (k + 1) s))) (sym is_x)
-      ∙ ap (λ (z : ℕ × ℕ). cond (differ x.1 z.1) (Some k) (left m a b (k + 1) x.0 z.0 (drop (k + 1) s))) (sym is_y)
+module _ (m : Machine) (a b k : ℕ) (p : Pair) (l : ℕ) (s : List ℕ) where
+  pub left_differs : pair_step m a b p l ≡ None → left m a b k p (l ∷ s) ≡ Some k
+  left_differs e = go (differ (step_of m a p.first l).1 (step_of m b p.second l).1) e
+    where
+      go : (t : Bool) → cond t None (Some (pair (step_of m a p.first l).0 (step_of m b p.second l).0)) ≡ None → cond t (Some k) (left m a b (k + 1) (pair (step_of m a p.first l).0 (step_of m b p.second l).0) s) ≡ Some k
+      go true o = refl
+      go false o = absurd cc
 
-  pub left_same : differ x.1 y.1 ≡ false → left m a b k p q (drop k s) ≡ left m a b (k + 1) x.0 y.0 (drop (k + 1) s)
-  left_same e = stepped ∙ ap (λ t. cond t (Some k) (left m a b (k + 1) x.0 y.0 (drop (k + 1) s))) e
-
-  pub left_differs : differ x.1 y.1 ≡ true → left m a b k p q (drop k s) ≡ Some k
-  left_differs e = stepped ∙ ap (λ t. cond t (Some k) (left m a b (k + 1) x.0 y.0 (drop (k + 1) s))) e
+  pub left_same : (q : Pair) → pair_step m a b p l ≡ Some q → left m a b k p (l ∷ s) ≡ left m a b (k + 1) q s
+  left_same q e = go (differ (step_of m a p.first l).1 (step_of m b p.second l).1) e
+    where
+      go : (t : Bool) → cond t None (Some (pair (step_of m a p.first l).0 (step_of m b p.second l).0)) ≡ Some q → cond t (Some k) (left m a b (k + 1) (pair (step_of m a p.first l).0 (step_of m b p.second l).0) s) ≡ left m a b (k + 1) q s
+      go true o = absurd cc
+      go false o = let e : pair (step_of m a p.first l).0 (step_of m b p.second l).0 ≡ q = cc in ap (λ (r : Pair). left m a b (k + 1) r s) e

@@ -1,14 +1,15 @@
 -- A table over pair numbers that holds the pairs of a list.
-use Rattle.std.proofs.Common.{◌≡◌, ℕ, ◌+◌, ◌*◌, ◌<◌, ◌≤◌, Bool, true, false, ◌&&◌, ◌||◌, eqb, ◌⊎◌, List, [], ◌∷◌, ◌++◌, length, get_or, take, set, replicate, sym, refl, ap, ◌∙◌, inl, inr, arith}
-use Rattle.std.proofs.lemmas.List.{get_or-set_same, get_or-set_other, take_more, get_or-replicate, get_or_past, length-replicate}
+use Rattle.std.proofs.Common.{◌≡◌, ℕ, ◌*◌, ◌<◌, ◌≤◌, Bool, true, false, ◌&&◌, ◌||◌, eqb, cond, ◌⊎◌, List, [], ◌∷◌, ◌++◌, length, get_or, set, replicate, Some, None, sym, refl, ap, ◌∙◌, subst, inl, inr, arith}
+use Rattle.std.proofs.lemmas.List.{get_or-set_same, get_or-set_other, get_or-replicate, get_or_past, length-replicate}
 use Rattle.std.proofs.lemmas.Bool.{and_parts, and_from, lt-ltb, eqb-true, eq-eqb, ltb-true, cases_lt}
-use Rattle.machine.specs.Machines.{Machine, Sound}
+use Rattle.machine.specs.Machines.{Machine, Sound, step_of}
+use Rattle.machine.specs.Outputs.{differ}
 use Rattle.machine.specs.Products.{pair, reset_pair}
 use Rattle.machine.specs.declared.pair.Pair.{Pair}
 use Rattle.compare.specs.Checks.{pair_inside, listed, next_pair, in_table, TableOf}
 use Rattle.machine.proofs.Ranges.{reset_below, next_below}
 use Rattle.compare.specs.Soundness.{pair_number_same, pair_number_below}
-use Rattle.compare.specs.Walks.{pair_number}
+use Rattle.compare.specs.Walks.{pair_number, pair_step}
 
 -- a list of one value has it everywhere, and past its end by default
 pub get_or_replicate_self : {X : Type 0} (n k : ℕ) (x : X) → get_or (replicate n x) k x ≡ x
@@ -34,6 +35,13 @@ same_pair_self p = ap (λ t. t && eqb p.second p.second) (eq-eqb p.first p.first
 pub inside_parts : (n : ℕ) (p : Pair) → pair_inside n p ≡ true → (p.first < n) × (p.second < n)
 inside_parts n p e = (ltb-true _ _ (and_parts _ _ e).0, ltb-true _ _ (and_parts _ _ e).1)
 
+pub inside_from : (n : ℕ) (p : Pair) → p.first < n → p.second < n → pair_inside n p ≡ true
+inside_from n p h k = and_from _ _ (lt-ltb _ _ h) (lt-ltb _ _ k)
+
+-- the number of a pair of states is below the number of pairs
+pub number_inside : (n : ℕ) (p : Pair) → pair_inside n p ≡ true → pair_number n p < n * n
+number_inside n p e = let h = inside_parts n p e in pair_number_below n p h.0 h.1
+
 or_assoc : (x y z : Bool) → (x || (y || z)) ≡ ((x || y) || z)
 or_assoc true y z = refl
 or_assoc false y z = refl
@@ -52,38 +60,40 @@ listed_push (r ∷ qs) q p = ap (λ t. same_pair r p || t) (listed_push qs q p) 
 
 -- the pair that a letter leads to is a pair of states, and so is the pair of resets
 pub next_inside : (m : Machine) → Sound m → (a b : ℕ) (p : Pair) (l : ℕ) → pair_inside m.states (next_pair m a b p l) ≡ true
-next_inside m sound a b p l = and_from _ _ (lt-ltb _ _ (next_below m sound a p.first l)) (lt-ltb _ _ (next_below m sound b p.second l))
+next_inside m sound a b p l = inside_from _ _ (next_below m sound a p.first l) (next_below m sound b p.second l)
+
+-- a step that does not meet the goal leads to that pair
+pub step_next : (m : Machine) (a b : ℕ) (p q : Pair) (l : ℕ) → pair_step m a b p l ≡ Some q → next_pair m a b p l ≡ q
+step_next m a b p q l e = go (differ (step_of m a p.first l).1 (step_of m b p.second l).1) e
+  where
+    go : (t : Bool) → cond t None (Some (next_pair m a b p l)) ≡ Some q → next_pair m a b p l ≡ q
+    go true o = absurd cc
+    go false o = cc
+
+pub step_inside : (m : Machine) → Sound m → (a b : ℕ) (p q : Pair) (l : ℕ) → pair_step m a b p l ≡ Some q → pair_inside m.states q ≡ true
+step_inside m sound a b p q l e = subst (λ (r : Pair). pair_inside m.states r ≡ true) (step_next m a b p q l e) (next_inside m sound a b p l)
 
 pub reset_inside : (m : Machine) → Sound m → (a b : ℕ) → pair_inside m.states (reset_pair m a b) ≡ true
-reset_inside m sound a b = and_from _ _ (lt-ltb _ _ (reset_below m sound a)) (lt-ltb _ _ (reset_below m sound b))
+reset_inside m sound a b = inside_from _ _ (reset_below m sound a) (reset_below m sound b)
 
-module _ (n : ℕ) (ps : List Pair) (table : List Bool) (size : n * n ≤ length table) (i : ℕ) (d : Pair) (low : i < length ps) (held : TableOf n (take i ps) table) (q_inside : pair_inside n (get_or ps i d) ≡ true) where
-  -- one more pair is put into the table
-  pub table_more : TableOf n (take (i + 1) ps) (set table (pair_number n (get_or ps i d)) true)
-  table_more p p-inside = go (same_pair q p) refl
+-- one more pair is put into the table
+module _ (n : ℕ) (ps : List Pair) (q : Pair) (table : List Bool) (size : n * n ≤ length table) (q_inside : pair_inside n q ≡ true) (held : TableOf n ps table) where
+  pub table_push : TableOf n (ps ++ q ∷ []) (set table (pair_number n q) true)
+  table_push p p_inside = go (same_pair q p) refl
     where
-      q : Pair
-      q = get_or ps i d
+      room : pair_number n q < length table
+      room = omega (arith, number_inside n q q_inside)
 
-      listed_more : listed (take (i + 1) ps) p ≡ (listed (take i ps) p || same_pair (get_or ps i d) p)
-      listed_more = ap (λ (xs : List Pair). listed xs p) (take_more ps i d low) ∙ listed_push (take i ps) (get_or ps i d) p
-
-      room : pair_number n (get_or ps i d) < length table
-      room = let h = inside_parts n (get_or ps i d) q_inside in let b = pair_number_below n (get_or ps i d) h.0 h.1 in omega arith
-
-      go : (t : Bool) → same_pair (get_or ps i d) p ≡ t → in_table n (set table (pair_number n (get_or ps i d)) true) p ≡ listed (take (i + 1) ps) p
+      go : (t : Bool) → same_pair q p ≡ t → in_table n (set table (pair_number n q) true) p ≡ listed (ps ++ q ∷ []) p
       go true e =
-          let one = same_pair_is (get_or ps i d) p e in
-          ap (λ (x : Pair). get_or (set table (pair_number n (get_or ps i d)) true) (pair_number n x) false) (sym one)
-          ∙ get_or-set_same table (pair_number n (get_or ps i d)) true false room
-          ∙ sym (listed_more ∙ ap (λ t. listed (take i ps) p || t) e ∙ or_true (listed (take i ps) p))
+          ap (λ (x : Pair). get_or (set table (pair_number n q) true) (pair_number n x) false) (sym (same_pair_is q p e))
+          ∙ get_or-set_same table (pair_number n q) true false room
+          ∙ sym (listed_push ps q p ∙ ap (λ t. listed ps p || t) e ∙ or_true (listed ps p))
       go false e =
-          let other : pair_number n p ≡ pair_number n (get_or ps i d) → ⊥ = λ z. off e (sym (pair_number_same n p (get_or ps i d) (inside_parts n p p-inside).1 (inside_parts n (get_or ps i d) q_inside).1 z)) in
-          get_or-set_other table (pair_number n (get_or ps i d)) (pair_number n p) true false other
-          ∙ held p p-inside
-          ∙ sym (listed_more ∙ ap (λ t. listed (take i ps) p || t) e ∙ or_false (listed (take i ps) p))
+          let other : pair_number n p ≡ pair_number n q → ⊥ = λ z. off e (sym (pair_number_same n p q (inside_parts n p p_inside).1 (inside_parts n q q_inside).1 z)) in
+          get_or-set_other table (pair_number n q) (pair_number n p) true false other
+          ∙ held p p_inside
+          ∙ sym (listed_push ps q p ∙ ap (λ t. listed ps p || t) e ∙ or_false (listed ps p))
         where
-          off : same_pair (get_or ps i d) p ≡ false → get_or ps i d ≡ p → ⊥
-          off f one =
-              let z : true ≡ false = sym (same_pair_self p) ∙ ap (λ (x : Pair). same_pair x p) (sym one) ∙ f in
-              let w : ◌≡◌ {A = ℕ} 0 1 = cc in omega arith
+          off : same_pair q p ≡ false → q ≡ p → ⊥
+          off f one = let z : true ≡ false = sym (same_pair_self p) ∙ ap (λ (x : Pair). same_pair x p) (sym one) ∙ f in cc

@@ -1,5 +1,5 @@
 -- What a comparison answers.
-use Rattle.std.specs.Prelude.{◌≡◌, ℕ, ◌*◌, ◌<◌, ◌≤◌, Bool, true, false, ◌⊎◌, List, ◌++◌, map, length, take, drop, Ok, Err, Result}
+use Rattle.std.specs.Prelude.{◌≡◌, ℕ, ◌*◌, ◌<◌, ◌≤◌, true, ◌⊎◌, List, ◌++◌, map, length, take, drop, None, Ok, Err, Result}
 use Rattle.machine.specs.Machines.{Machine}
 use Rattle.machine.specs.Outputs.{Equivalent, LeastDistinguishing}
 use Rattle.machine.specs.Products.{ReachablePairs}
@@ -8,10 +8,11 @@ use Rattle.machine.specs.declared.pair.Pair.{Pair}
 use Rattle.machine.specs.declared.refusal.Refusal.{Refusal}
 use Rattle.machine.specs.declared.refusal.Refusal.TheVariants.{NoSuchMember, WorkTooShort, AnswerTooShort}
 use Rattle.search.specs.declared.found.Found.{Found}
-use Rattle.search.specs.declared.found.Found.TheVariants.{Goal, Exhausted, WorkTooShort as NoWork, AnswerTooShort as NoAnswer}
+use Rattle.search.specs.declared.found.Found.TheVariants.{Goal, Exhausted}
+use Rattle.search.specs.declared.search_error.SearchError.{SearchError}
+use Rattle.search.specs.declared.search_error.SearchError.TheVariants as error
 use Rattle.search.specs.declared.visit.Visit.{Visit}
 use Rattle.compare.specs.Checks.{pairs_inside, finding, checked}
-use Rattle.compare.specs.declared.finding.Finding.TheVariants.{Closed}
 use Rattle.compare.specs.declared.verdict.Verdict.{Verdict}
 use Rattle.compare.specs.declared.verdict.Verdict.TheVariants.{Differ, Equivalent as Same}
 
@@ -28,23 +29,23 @@ abbrev pub PairWork : Machine → ℕ → ℕ → Type 0
 PairWork m v w = (m.states * m.states ≤ v) × (m.states * m.states ≤ w)
 
 -- what the search over the product machine answers: the letters found, or visits that are the reachable pairs
-abbrev pub PairsSearched : Machine → ℕ → ℕ → ℕ → ℕ → List ℕ → Found → List (Visit Pair) → List ℕ → Type 0
-PairsSearched m a b v w letters (Goal n) xs letters' = PairWork m v w × ((s : List ℕ) × LeastDistinguishing m a b s × (length s ≡ n) × FirstEntries s letters letters')
-PairsSearched m a b v w letters (Exhausted n) xs letters' = PairWork m v w × Equivalent m a b × (n ≤ length xs) × (length (positions (take n xs)) ≡ n) × ReachablePairs m a b (positions (take n xs)) × (pairs_inside m.states (positions (take n xs)) ≡ true) × (finding m a b (positions (take n xs)) ≡ Closed) × (letters' ≡ letters)
-PairsSearched m a b v w letters NoWork xs letters' = ((v < m.states * m.states) ⊎ (w < m.states * m.states)) × (letters' ≡ letters)
-PairsSearched m a b v w letters NoAnswer xs letters' = PairWork m v w × ((s : List ℕ) × LeastDistinguishing m a b s × (length letters < length s)) × (letters' ≡ letters)
+abbrev pub PairsSearched : Machine → ℕ → ℕ → ℕ → ℕ → List ℕ → Result Found SearchError → List (Visit Pair) → List ℕ → Type 0
+PairsSearched m a b v w letters (Ok (Goal n)) xs letters' = PairWork m v w × ((s : List ℕ) × LeastDistinguishing m a b s × (length s ≡ n) × FirstEntries s letters letters')
+PairsSearched m a b v w letters (Ok (Exhausted n)) xs letters' = PairWork m v w × Equivalent m a b × (n ≤ length xs) × (length (positions (take n xs)) ≡ n) × ReachablePairs m a b (positions (take n xs)) × (pairs_inside m.states (positions (take n xs)) ≡ true) × (finding m a b (positions (take n xs)) ≡ None) × (letters' ≡ letters)
+PairsSearched m a b v w letters (Err error.WorkTooShort) xs letters' = ((v < m.states * m.states) ⊎ (w < m.states * m.states)) × (letters' ≡ letters)
+PairsSearched m a b v w letters (Err error.AnswerTooShort) xs letters' = PairWork m v w × ((s : List ℕ) × LeastDistinguishing m a b s × (length letters < length s)) × (letters' ≡ letters)
 
 -- a least distinguishing sequence has no more letters than there are pairs of states, whether it was found or does not fit
-abbrev pub FewLetters : Machine → ℕ → ℕ → Found → Type 0
-FewLetters m a b (Goal n) = n ≤ m.states * m.states
-FewLetters m a b (Exhausted n) = Unit {0}
-FewLetters m a b NoWork = Unit {0}
-FewLetters m a b NoAnswer = (s : List ℕ) → LeastDistinguishing m a b s → length s ≤ m.states * m.states
+abbrev pub FewLetters : Machine → ℕ → ℕ → Result Found SearchError → Type 0
+FewLetters m a b (Ok (Goal n)) = n ≤ m.states * m.states
+FewLetters m a b (Ok (Exhausted n)) = Unit {0}
+FewLetters m a b (Err error.WorkTooShort) = Unit {0}
+FewLetters m a b (Err error.AnswerTooShort) = (s : List ℕ) → LeastDistinguishing m a b s → length s ≤ m.states * m.states
 
 -- the positions of visits are written into the first entries of a slice, or do not fit
-abbrev pub Listed : {P : Type 0} → List (Visit P) → List P → Bool → List P → Type 0
-Listed xs pairs true pairs' = (length xs ≤ length pairs) × (pairs' ≡ positions xs ++ drop (length xs) pairs)
-Listed xs pairs false pairs' = (length pairs < length xs) × (pairs' ≡ pairs)
+abbrev pub Listed : {P : Type 0} → List (Visit P) → List P → Result Unit Refusal → List P → Type 0
+Listed xs pairs (Ok _) pairs' = (length xs ≤ length pairs) × (pairs' ≡ positions xs ++ drop (length xs) pairs)
+Listed xs pairs (Err r) pairs' = (r ≡ AnswerTooShort) × (length pairs < length xs) × (pairs' ≡ pairs)
 
 -- the least distinguishing sequence does not fit the letter slice
 abbrev pub ShortLetters : Machine → ℕ → ℕ → List ℕ → Type 0
@@ -66,6 +67,6 @@ abbrev pub Compared : Machine → ℕ → ℕ → ℕ → ℕ → List ℕ → L
 Compared m a b v w letters pairs (Ok (Differ n)) letters' pairs' =
     Members m a b × PairWork m v w × ((s : List ℕ) × LeastDistinguishing m a b s × (length s ≡ n) × FirstEntries s letters letters') × (pairs' ≡ pairs)
 Compared m a b v w letters pairs (Ok (Same n)) letters' pairs' =
-    Members m a b × PairWork m v w × Equivalent m a b × ((qs : List Pair) × ReachablePairs m a b qs × (checked m a b qs ≡ Ok Closed) × (length qs ≡ n) × FirstEntries qs pairs pairs') × (letters' ≡ letters)
+    Members m a b × PairWork m v w × Equivalent m a b × ((qs : List Pair) × ReachablePairs m a b qs × (checked m a b qs ≡ Ok None) × (length qs ≡ n) × FirstEntries qs pairs pairs') × (letters' ≡ letters)
 Compared m a b v w letters pairs (Err r) letters' pairs' =
     ComparisonRefused m a b v w letters pairs r × (letters' ≡ letters) × (pairs' ≡ pairs)

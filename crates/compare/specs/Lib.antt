@@ -4,3 +4,4 @@ pub mod Replays
 pub mod Reaches
 pub mod Checks
 pub mod Comparisons
+pub mod Verdicts

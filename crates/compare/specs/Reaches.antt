@@ -1,14 +1,14 @@
 -- What reaching a state answers.
-use Rattle.std.specs.Prelude.{◌≡◌, ℕ, ◌<◌, ◌≤◌, ◌⊎◌, List, length, Ok, Err, Result}
+use Rattle.std.specs.Prelude.{◌≡◌, ℕ, ◌<◌, ◌≤◌, ◌⊎◌, List, length, Some, None, Ok, Err, Option, Result}
 use Rattle.machine.specs.Machines.{Machine}
 use Rattle.machine.specs.Products.{LeastWay, NeverReached}
 use Rattle.machine.specs.Slices.{FirstEntries}
 use Rattle.machine.specs.declared.refusal.Refusal.{Refusal}
 use Rattle.machine.specs.declared.refusal.Refusal.TheVariants.{NoSuchMember, OutOfRange, WorkTooShort, AnswerTooShort}
 use Rattle.search.specs.declared.found.Found.{Found}
-use Rattle.search.specs.declared.found.Found.TheVariants.{Goal, Exhausted, WorkTooShort as NoWork, AnswerTooShort as NoAnswer}
-use Rattle.compare.specs.declared.reached.Reached.{Reached}
-use Rattle.compare.specs.declared.reached.Reached.TheVariants.{By, Unreachable}
+use Rattle.search.specs.declared.found.Found.TheVariants.{Goal, Exhausted}
+use Rattle.search.specs.declared.search_error.SearchError.{SearchError}
+use Rattle.search.specs.declared.search_error.SearchError.TheVariants as error
 
 -- v visits and w mark words are enough: one of each for every state
 abbrev pub StateWork : Machine → ℕ → ℕ → Type 0
@@ -27,11 +27,11 @@ abbrev pub ShortWay : Machine → ℕ → ℕ → List ℕ → Type 0
 ShortWay m a q letters = (s : List ℕ) × LeastWay m a q s × (length letters < length s)
 
 -- what the search over the states of member a answers
-abbrev pub StatesSearched : Machine → ℕ → ℕ → ℕ → ℕ → List ℕ → Found → List ℕ → Type 0
-StatesSearched m a q v w letters (Goal n) letters' = StateWork m v w × WayWritten m a q letters n letters'
-StatesSearched m a q v w letters (Exhausted n) letters' = StateWork m v w × NeverReached m a q × (letters' ≡ letters)
-StatesSearched m a q v w letters NoWork letters' = ShortWork m v w × (letters' ≡ letters)
-StatesSearched m a q v w letters NoAnswer letters' = StateWork m v w × ShortWay m a q letters × (letters' ≡ letters)
+abbrev pub StatesSearched : Machine → ℕ → ℕ → ℕ → ℕ → List ℕ → Result Found SearchError → List ℕ → Type 0
+StatesSearched m a q v w letters (Ok (Goal n)) letters' = StateWork m v w × WayWritten m a q letters n letters'
+StatesSearched m a q v w letters (Ok (Exhausted n)) letters' = StateWork m v w × NeverReached m a q × (letters' ≡ letters)
+StatesSearched m a q v w letters (Err error.WorkTooShort) letters' = ShortWork m v w × (letters' ≡ letters)
+StatesSearched m a q v w letters (Err error.AnswerTooShort) letters' = StateWork m v w × ShortWay m a q letters × (letters' ≡ letters)
 
 -- why reaching the state q of member a is refused, over v visits, w mark words and a letter slice: the first that applies
 abbrev pub ReachRefused : Machine → ℕ → ℕ → ℕ → ℕ → List ℕ → Refusal → Type 0
@@ -42,7 +42,7 @@ ReachRefused m a q v w letters r =
     ⊎ (StateWork m v w × (r ≡ AnswerTooShort) × ShortWay m a q letters)))))
 
 -- the answer for the state q of member a over v visits, w mark words and a letter slice, with what the last holds afterwards
-abbrev pub Reaches : Machine → ℕ → ℕ → ℕ → ℕ → List ℕ → Result Reached Refusal → List ℕ → Type 0
-Reaches m a q v w letters (Ok (By n)) letters' = (a < m.members) × (q < m.states) × StateWork m v w × WayWritten m a q letters n letters'
-Reaches m a q v w letters (Ok Unreachable) letters' = (a < m.members) × (q < m.states) × StateWork m v w × NeverReached m a q × (letters' ≡ letters)
+abbrev pub Reaches : Machine → ℕ → ℕ → ℕ → ℕ → List ℕ → Result (Option ℕ) Refusal → List ℕ → Type 0
+Reaches m a q v w letters (Ok (Some n)) letters' = (a < m.members) × (q < m.states) × StateWork m v w × WayWritten m a q letters n letters'
+Reaches m a q v w letters (Ok None) letters' = (a < m.members) × (q < m.states) × StateWork m v w × NeverReached m a q × (letters' ≡ letters)
 Reaches m a q v w letters (Err r) letters' = ReachRefused m a q v w letters r × (letters' ≡ letters)

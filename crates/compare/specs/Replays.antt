@@ -1,5 +1,5 @@
 -- What a replay answers.
-use Rattle.std.specs.Prelude.{ℕ, Bool, cond, ◌&&◌, List, Ok, Err, Option, Result, nat_lt}
+use Rattle.std.specs.Prelude.{ℕ, Bool, ◌&&◌, List, Ok, Err, Option, Result, if◌then◌else◌, nat_lt}
 use Rattle.machine.specs.Machines.{Machine}
 use Rattle.machine.specs.Outputs.{first_difference}
 use Rattle.machine.specs.Sequences.{legal}
@@ -12,4 +12,4 @@ are_members m a b = nat_lt a m.members && nat_lt b m.members
 
 -- the first place at which the outputs of a and b along s differ, or a refusal: the checks in their order
 abbrev pub replayed : Machine → ℕ → ℕ → List ℕ → Result (Option ℕ) Refusal
-replayed m a b s = cond (are_members m a b) (cond (legal m.letters s) (Ok (first_difference m a b s)) (Err BadSequence)) (Err NoSuchMember)
+replayed m a b s = if are_members m a b then (if legal m.letters s then Ok (first_difference m a b s) else Err BadSequence) else Err NoSuchMember

@@ -1,5 +1,5 @@
 -- The walks over a device: what each means, and that it is sound.
-use Rattle.std.specs.Prelude.{ℕ, ◌+◌, ◌*◌, ◌<◌, cond, Some, None, Option, ◌==◌}
+use Rattle.std.specs.Prelude.{ℕ, ◌+◌, ◌*◌, ◌<◌, Some, None, Option, ◌==◌, if◌then◌else◌}
 use Rattle.machine.specs.Machines.{Machine, reset_of, step_of}
 use Rattle.machine.specs.Outputs.{differ}
 use Rattle.machine.specs.Products.{pair, reset_pair}
@@ -8,7 +8,7 @@ use Rattle.search.specs.Graphs.{Graph}
 
 -- where a letter leads from a pair of states of a and b: to the goal where the outputs differ
 abbrev pub pair_step : Machine → ℕ → ℕ → Pair → ℕ → Option Pair
-pair_step m a b p l = cond (differ (step_of m a p.first l).1 (step_of m b p.second l).1) None (Some (pair (step_of m a p.first l).0 (step_of m b p.second l).0))
+pair_step m a b p l = if differ (step_of m a p.first l).1 (step_of m b p.second l).1 then None else Some (pair (step_of m a p.first l).0 (step_of m b p.second l).0)
 
 -- the number of a pair of states, of which there are n
 abbrev pub pair_number : ℕ → Pair → ℕ
@@ -26,7 +26,7 @@ pair_graph m a b = record {
 
 -- where a letter leads member a from the state p: to the goal where it arrives at q
 abbrev pub state_step : Machine → ℕ → ℕ → ℕ → ℕ → Option ℕ
-state_step m a q p l = cond ((step_of m a p l).0 == q) None (Some (step_of m a p l).0)
+state_step m a q p l = if (step_of m a p l).0 == q then None else Some (step_of m a p l).0
 
 -- the walk over the states of member a, from reset, in search of q
 abbrev pub state_graph : Machine → ℕ → ℕ → Graph ℕ

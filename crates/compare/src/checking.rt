@@ -1,186 +1,81 @@
-ghost use Rattle.std.specs.Prelude.{◌≡◌, ℕ, ◌≤◌, true, false, length, replicate, Ok};
+ghost use Rattle.std.specs.Prelude.{◌≡◌, None, Ok};
 ghost use Rattle.machine.specs.Outputs.{Equivalent};
-ghost use Rattle.machine.specs.Products.{reset_pair};
-ghost use Rattle.compare.specs.Checks.{TableOf, checked, finding, flaw_at, flaw_at_letters, flaw_at_places, in_table, listed, pair_inside, pairs_inside};
+ghost use Rattle.compare.specs.Checks.{TableOf, checked, finding, flaw_at, flaw_at_letters, flaw_at_places, in_table, listed};
 
-use super::finding::Finding;
-use super::pair_walk::{pair_number, reset_pair};
-use machine::{Device, Pair, Refusal, outputs_differ};
-
-// As many pairs as a device can have.
-const PAIRS: usize = 65536;
-
-// Whether both states are below the count.
-fn pair_inside(states: u16, pair: Pair) -> bool
-    ensures { result ≡ pair_inside states pair }
-{
-    pair.first < states && pair.second < states
-}
-
-// Marks each pair in the table, or answers false at one that is out of range.
-fn enlist(states: u16, pairs: &[Pair], table: &mut [bool]) -> bool
-    requires empty { table.old ≡ replicate 65536 false }
-    requires few { states ≤ 256 }
-    ensures inside { result ≡ pairs_inside states pairs.now }
-    ensures tabled { result ≡ true → TableOf states pairs.now table.new }
-{
-    for pair in pairs {
-        if !pair_inside(states, *pair) {
-            return false;
-        }
-        table[pair_number(states, *pair)] = true;
-    }
-    true
-}
+use super::flaw::Flaw;
+use super::pair_set::PairSet;
+use super::product::Product;
+use machine::{Device, Pair, Refusal};
+use search::Walk;
 
 // What is wrong at one pair and one letter, if anything.
 fn check_letter<D: Device>(
-    device: &D,
-    first: u16,
-    second: u16,
-    table: &[bool],
+    product: &Product<D>,
+    set: &PairSet,
     place: usize,
     pair: Pair,
     letter: u8,
-) -> Option<Finding>
-    requires { length table.now ≡ 65536 }
-    ensures { result ≡ flaw_at (D.meaning device.now) first second (in_table (D.meaning device.now).states table.now) place pair letter }
+) -> Option<Flaw>
+    requires { set.now.states ≡ (D.meaning product.now.device.now).states }
+    ensures { result ≡ flaw_at (D.meaning product.now.device.now) product.now.first product.now.second (in_table set.now.states set.now.marked) place pair letter }
 {
-    let (p, x) = device.step(first, pair.first, letter);
-    let (q, y) = device.step(second, pair.second, letter);
-    let known = table[pair_number(
-        device.states(),
-        Pair {
-            first: p,
-            second: q,
-        },
-    )];
-    if outputs_differ(x, y) {
-        Some(Finding::OutputsDiffer { place, letter })
-    } else if known {
-        None
-    } else {
-        Some(Finding::SuccessorMissing { place, letter })
+    match product.step(pair, letter) {
+        None => Some(Flaw::OutputsDiffer { place, letter }),
+        Some(next) if set.contains(next) => None,
+        Some(_) => Some(Flaw::SuccessorMissing { place, letter }),
     }
-}
-
-// What is wrong at one pair, at the least of the first letters.
-fn check_letters<D: Device>(
-    device: &D,
-    first: u16,
-    second: u16,
-    table: &[bool],
-    place: usize,
-    pair: Pair,
-    letters: u8,
-) -> Option<Finding>
-    requires { length table.now ≡ 65536 }
-    ensures { result ≡ flaw_at_letters (D.meaning device.now) first second (in_table (D.meaning device.now).states table.now) place pair 0 letters }
-{
-    for letter in 0..letters {
-        let flaw = check_letter(device, first, second, table, place, pair, letter);
-        if flaw.is_some() {
-            return flaw;
-        }
-    }
-    None
 }
 
 // What is wrong at one pair, at the least letter.
 fn check_pair<D: Device>(
-    device: &D,
-    first: u16,
-    second: u16,
-    table: &[bool],
+    product: &Product<D>,
+    set: &PairSet,
     place: usize,
     pair: Pair,
-) -> Option<Finding>
-    requires { length table.now ≡ 65536 }
-    ensures { result ≡ flaw_at_letters (D.meaning device.now) first second (in_table (D.meaning device.now).states table.now) place pair 0 (D.meaning device.now).letters }
+) -> Option<Flaw>
+    requires { set.now.states ≡ (D.meaning product.now.device.now).states }
+    ensures { let m = D.meaning product.now.device.now in result ≡ flaw_at_letters m product.now.first product.now.second (in_table set.now.states set.now.marked) place pair 0 m.letters }
 {
-    check_letters(device, first, second, table, place, pair, device.letters())
+    (0..product.letters()).find_map(|letter| check_letter(product, set, place, pair, letter))
 }
 
 // What is wrong at the least place.
-fn check_pairs<D: Device>(
-    device: &D,
-    first: u16,
-    second: u16,
-    table: &[bool],
-    pairs: &[Pair],
-) -> Option<Finding>
-    requires size { length table.now ≡ 65536 }
-    requires tabled { TableOf (D.meaning device.now).states pairs.now table.now }
-    ensures { result ≡ flaw_at_places (D.meaning device.now) first second (listed pairs.now) 0 pairs.now }
+fn check_pairs<D: Device>(product: &Product<D>, set: &PairSet, pairs: &[Pair]) -> Option<Flaw>
+    requires same { set.now.states ≡ (D.meaning product.now.device.now).states }
+    requires all { TableOf set.now.states pairs.now set.now.marked }
+    ensures { result ≡ flaw_at_places (D.meaning product.now.device.now) product.now.first product.now.second (listed pairs.now) 0 pairs.now }
 {
-    for (place, pair) in pairs.iter().enumerate() {
-        let flaw = check_pair(device, first, second, table, place, *pair);
-        if flaw.is_some() {
-            return flaw;
-        }
-    }
-    None
+    pairs
+        .iter()
+        .enumerate()
+        .find_map(|(place, pair)| check_pair(product, set, place, *pair))
 }
 
-// Whether the pair of resets is listed.
-fn lists_reset<D: Device>(
-    device: &D,
-    first: u16,
-    second: u16,
-    table: &[bool],
-    pairs: &[Pair],
-) -> bool
-    requires size { length table.now ≡ 65536 }
-    requires tabled { TableOf (D.meaning device.now).states pairs.now table.now }
-    ensures { result ≡ listed pairs.now (reset_pair (D.meaning device.now) first second) }
+// What is wrong with a list whose pairs are the set.
+fn find<D: Device>(product: &Product<D>, set: &PairSet, pairs: &[Pair]) -> Option<Flaw>
+    requires same { set.now.states ≡ (D.meaning product.now.device.now).states }
+    requires all { TableOf set.now.states pairs.now set.now.marked }
+    ensures { result ≡ finding (D.meaning product.now.device.now) product.now.first product.now.second pairs.now }
 {
-    table[pair_number(device.states(), reset_pair(device, first, second))]
-}
-
-// What is found in a list that stands in the table.
-fn find<D: Device>(device: &D, first: u16, second: u16, table: &[bool], pairs: &[Pair]) -> Finding
-    requires size { length table.now ≡ 65536 }
-    requires tabled { TableOf (D.meaning device.now).states pairs.now table.now }
-    ensures { result ≡ finding (D.meaning device.now) first second pairs.now }
-{
-    if !lists_reset(device, first, second, table, pairs) {
-        return Finding::NoResetPair;
-    }
-    match check_pairs(device, first, second, table, pairs) {
-        Some(flaw) => flaw,
-        None => Finding::Closed,
+    if set.contains(product.start()) {
+        check_pairs(product, set, pairs)
+    } else {
+        Some(Flaw::NoResetPair)
     }
 }
 
-// The refusals, and then what is found.
-fn check_list<D: Device>(
-    device: &D,
-    first: u16,
-    second: u16,
-    pairs: &[Pair],
-) -> Result<Finding, Refusal>
-    ensures { result ≡ checked (D.meaning device.now) first second pairs.now }
-{
-    let members = device.members();
-    if first >= members || second >= members {
-        return Err(Refusal::NoSuchMember);
-    }
-    let mut table = [false; PAIRS];
-    if !enlist(device.states(), pairs, &mut table) {
-        return Err(Refusal::OutOfRange);
-    }
-    Ok(find(device, first, second, &table, pairs))
-}
-
-// Whether a list of pairs is closed for two members, or the first thing that is wrong with it. A closed list shows that they are equivalent.
+// What is wrong with a list of pairs for two members, or nothing: then it is closed, and shows that they are equivalent.
 pub fn check<D: Device>(
     device: &D,
     first: u16,
     second: u16,
     pairs: &[Pair],
-) -> Result<Finding, Refusal>
+) -> Result<Option<Flaw>, Refusal>
     ensures answer { result ≡ checked (D.meaning device.now) first second pairs.now }
-    ensures proof { result ≡ Ok Finding.Closed → Equivalent (D.meaning device.now) first second }
+    ensures proof { result ≡ Ok None → Equivalent (D.meaning device.now) first second }
 {
-    check_list(device, first, second, pairs)
+    let product = Product::new(device, first, second)?;
+    let mut set = PairSet::new(device.states());
+    set.insert_all(pairs)?;
+    Ok(find(&product, &set, pairs))
 }

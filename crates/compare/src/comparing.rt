@@ -1,10 +1,23 @@
-ghost use Rattle.std.specs.Prelude.{◌≡◌, ◌≤◌, ◌++◌, length, drop};
-ghost use Rattle.compare.specs.Comparisons.{Compared, FewLetters, Listed, PairsSearched, positions};
+ghost use Rattle.std.specs.Prelude.{◌≡◌, ◌<◌, ◌≤◌, ◌++◌, length, drop, IfErr, OnErr, OnOk};
+ghost use Rattle.compare.specs.Comparisons.{Compared, FewLetters, PairsSearched, positions};
 
-use super::pair_walk::PairWalk;
+use super::product::Product;
 use super::verdict::Verdict;
 use machine::{Device, Pair, Refusal};
-use search::{Found, Visit, shortest};
+use search::{Found, SearchError, Visit, shortest};
+
+// Searches the product machine for the least sequence that distinguishes the members.
+fn search_product<D: Device>(
+    product: &Product<D>,
+    visits: &mut [Visit<Pair>],
+    marks: &mut [u32],
+    letters: &mut [u8],
+) -> Result<Found, SearchError>
+    ensures answer { PairsSearched (D.meaning product.now.device.now) product.now.first product.now.second (length visits.old) (length marks.old) letters.old result visits.new letters.new }
+    ensures few { FewLetters (D.meaning product.now.device.now) product.now.first product.now.second result }
+{
+    shortest(product, visits, marks, letters)
+}
 
 // Searches for the least sequence that distinguishes two members, which goes into `letters`. Where none does, the visits are left as the reachable pairs.
 pub fn search_pairs<D: Device>(
@@ -14,16 +27,16 @@ pub fn search_pairs<D: Device>(
     visits: &mut [Visit<Pair>],
     marks: &mut [u32],
     letters: &mut [u8],
-) -> Found
+) -> Result<Found, SearchError>
     ensures answer { PairsSearched (D.meaning device.now) first second (length visits.old) (length marks.old) letters.old result visits.new letters.new }
     ensures few { FewLetters (D.meaning device.now) first second result }
 {
-    let walk = PairWalk {
+    let product = Product {
         device,
         first,
         second,
     };
-    shortest(&walk, visits, marks, letters)
+    search_product(&product, visits, marks, letters)
 }
 
 // Writes the positions of the visits into the first entries of the pairs.
@@ -31,20 +44,25 @@ fn write_pairs(visits: &[Visit<Pair>], pairs: &mut [Pair])
     requires { length visits.now ≤ length pairs.old }
     ensures { pairs.new ≡ positions visits.now ++ drop (length visits.now) pairs.old }
 {
+    // By index: after a loop over `iter_mut` nothing is known of the elements.
     for (i, visit) in visits.iter().enumerate() {
         pairs[i] = visit.position;
     }
 }
 
-// Lists the positions of the visits, where they fit: whether they do.
-fn list_pairs(visits: &[Visit<Pair>], pairs: &mut [Pair]) -> bool
-    ensures { Listed visits.now pairs.old result pairs.new }
+// Lists the positions of the visits, where they fit.
+fn list_pairs(visits: &[Visit<Pair>], pairs: &mut [Pair]) -> Result<(), Refusal>
+    ensures fits { OnOk result (length visits.now ≤ length pairs.old) }
+    ensures listed { OnOk result (pairs.new ≡ positions visits.now ++ drop (length visits.now) pairs.old) }
+    ensures refusal { IfErr result (λ e. e ≡ Refusal.AnswerTooShort) }
+    ensures short { OnErr result (length pairs.old < length visits.now) }
+    ensures kept { OnErr result (pairs.new ≡ pairs.old) }
 {
     if pairs.len() < visits.len() {
-        return false;
+        return Err(Refusal::AnswerTooShort);
     }
     write_pairs(visits, pairs);
-    true
+    Ok(())
 }
 
 // Compares two members: the least sequence that distinguishes them goes into `letters`, or, where none does, the reachable pairs into `pairs`.
@@ -60,20 +78,12 @@ pub fn compare<D: Device>(
 ) -> Result<Verdict, Refusal>
     ensures { Compared (D.meaning device.now) first second (length visits.old) (length marks.old) letters.old pairs.old result letters.new pairs.new }
 {
-    let members = device.members();
-    if first >= members || second >= members {
-        return Err(Refusal::NoSuchMember);
-    }
-    match search_pairs(device, first, second, visits, marks, letters) {
+    let product = Product::new(device, first, second)?;
+    match search_product(&product, visits, marks, letters)? {
         Found::Goal { length } => Ok(Verdict::Differ { length }),
         Found::Exhausted { count } => {
-            if list_pairs(&visits[0..count], pairs) {
-                Ok(Verdict::Equivalent { count })
-            } else {
-                Err(Refusal::AnswerTooShort)
-            }
+            list_pairs(&visits[0..count], pairs)?;
+            Ok(Verdict::Equivalent { count })
         }
-        Found::WorkTooShort => Err(Refusal::WorkTooShort),
-        Found::AnswerTooShort => Err(Refusal::AnswerTooShort),
     }
 }

@@ -3,9 +3,9 @@
 
 mod checking;
 mod comparing;
-mod finding;
-mod pair_walk;
-mod reached;
+mod flaw;
+mod pair_set;
+mod product;
 mod reaching;
 mod replaying;
 mod state_walk;
@@ -13,8 +13,7 @@ mod verdict;
 
 pub use checking::check;
 pub use comparing::{compare, search_pairs};
-pub use finding::Finding;
-pub use reached::Reached;
+pub use flaw::Flaw;
 pub use reaching::reach;
 pub use replaying::{first_difference, is_legal, replay};
 pub use verdict::Verdict;

@@ -1,40 +1,25 @@
-ghost use Rattle.std.specs.Prelude.{◌≡◌, length, ◌==◌, ◌≢◌};
+ghost use Rattle.std.specs.Prelude.{length, ◌≢◌};
 ghost use Rattle.machine.specs.Machines.{reset_of};
 ghost use Rattle.compare.specs.Reaches.{Reaches, StatesSearched};
 
-use super::reached::Reached;
 use super::state_walk::StateWalk;
 use machine::{Device, Refusal};
-use search::{Found, Visit, shortest};
-
-// Whether a member is in the state from reset, with no letter at all.
-fn is_reset_state<D: Device>(device: &D, member: u16, state: u16) -> bool
-    ensures { result ≡ (reset_of (D.meaning device.now) member == state) }
-{
-    device.reset(member) == state
-}
+use search::{Found, SearchError, Visit, shortest};
 
 // Searches for the least sequence that leads a member from reset to another state.
 fn search_states<D: Device>(
-    device: &D,
-    member: u16,
-    wanted: u16,
+    walk: &StateWalk<D>,
     visits: &mut [Visit<u16>],
     marks: &mut [u32],
     letters: &mut [u8],
-) -> Found
-    requires { reset_of (D.meaning device.now) member ≢ wanted }
-    ensures { StatesSearched (D.meaning device.now) member wanted (length visits.old) (length marks.old) letters.old result letters.new }
+) -> Result<Found, SearchError>
+    requires { reset_of (D.meaning walk.now.device.now) walk.now.member ≢ walk.now.wanted }
+    ensures { StatesSearched (D.meaning walk.now.device.now) walk.now.member walk.now.wanted (length visits.old) (length marks.old) letters.old result letters.new }
 {
-    let walk = StateWalk {
-        device,
-        member,
-        wanted,
-    };
-    shortest(&walk, visits, marks, letters)
+    shortest(walk, visits, marks, letters)
 }
 
-// Reaches a state of a member: the least sequence that leads there from reset goes into `letters`; it is empty for the reset state.
+// Reaches a state of a member: the length of the least sequence that leads there from reset, which goes into `letters` and is empty for the reset state; or none, where no sequence does.
 // The work slices `visits` and `marks` have an entry for each state; what they hold does not matter and is lost.
 pub fn reach<D: Device>(
     device: &D,
@@ -43,7 +28,7 @@ pub fn reach<D: Device>(
     visits: &mut [Visit<u16>],
     marks: &mut [u32],
     letters: &mut [u8],
-) -> Result<Reached, Refusal>
+) -> Result<Option<usize>, Refusal>
     ensures { Reaches (D.meaning device.now) member wanted (length visits.old) (length marks.old) letters.old result letters.new }
 {
     if member >= device.members() {
@@ -56,13 +41,16 @@ pub fn reach<D: Device>(
     if visits.len() < states as usize || marks.len() < states as usize {
         return Err(Refusal::WorkTooShort);
     }
-    if is_reset_state(device, member, wanted) {
-        return Ok(Reached::By { length: 0 });
+    if device.reset(member) == wanted {
+        return Ok(Some(0));
     }
-    match search_states(device, member, wanted, visits, marks, letters) {
-        Found::Goal { length } => Ok(Reached::By { length }),
-        Found::Exhausted { count: _ } => Ok(Reached::Unreachable),
-        Found::WorkTooShort => Err(Refusal::WorkTooShort),
-        Found::AnswerTooShort => Err(Refusal::AnswerTooShort),
+    let walk = StateWalk {
+        device,
+        member,
+        wanted,
+    };
+    match search_states(&walk, visits, marks, letters)? {
+        Found::Goal { length } => Ok(Some(length)),
+        Found::Exhausted { count: _ } => Ok(None),
     }
 }

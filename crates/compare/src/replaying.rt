@@ -4,7 +4,9 @@ ghost use Rattle.machine.specs.Outputs.{first_difference};
 ghost use Rattle.machine.specs.Sequences.{legal};
 ghost use Rattle.compare.specs.Replays.{replayed};
 
-use machine::{Device, Refusal, outputs_differ};
+use super::product::Product;
+use machine::{Device, Refusal};
+use search::Walk;
 
 // The most letters that a sequence may have.
 const MOST_LETTERS: usize = 16384;
@@ -13,21 +15,30 @@ const MOST_LETTERS: usize = 16384;
 fn letters_below(count: u8, sequence: &[u8]) -> bool
     ensures { result ≡ all (λ l. nat_lt l count) sequence.now }
 {
-    for letter in sequence {
-        if *letter >= count {
-            return false;
-        }
-    }
-    true
+    sequence.iter().all(|letter| *letter < count)
 }
 
 // Whether the device takes the sequence: it has letters, not too many, and all are the device's.
 pub fn is_legal<D: Device>(device: &D, sequence: &[u8]) -> bool
     ensures { result ≡ legal (D.meaning device.now).letters sequence.now }
 {
-    sequence.len() > 0
+    !sequence.is_empty()
         && sequence.len() <= MOST_LETTERS
         && letters_below(device.letters(), sequence)
+}
+
+// The first place at which the outputs along the sequence differ.
+fn difference<D: Device>(product: &Product<D>, sequence: &[u8]) -> Option<usize>
+    ensures { result ≡ first_difference (D.meaning product.now.device.now) product.now.first product.now.second sequence.now }
+{
+    let mut pair = product.start();
+    for (place, letter) in sequence.iter().enumerate() {
+        match product.step(pair, *letter) {
+            None => return Some(place),
+            Some(next) => pair = next,
+        }
+    }
+    None
 }
 
 // The first place, counted from 0, at which the outputs of two members along the sequence differ.
@@ -39,18 +50,12 @@ pub fn first_difference<D: Device>(
 ) -> Option<usize>
     ensures { result ≡ first_difference (D.meaning device.now) first second sequence.now }
 {
-    let mut p = device.reset(first);
-    let mut q = device.reset(second);
-    for (place, letter) in sequence.iter().enumerate() {
-        let (p_next, x) = device.step(first, p, *letter);
-        let (q_next, y) = device.step(second, q, *letter);
-        if outputs_differ(x, y) {
-            return Some(place);
-        }
-        p = p_next;
-        q = q_next;
-    }
-    None
+    let product = Product {
+        device,
+        first,
+        second,
+    };
+    difference(&product, sequence)
 }
 
 // Replays a sequence on two members: the first place with outputs that differ, or none.
@@ -62,12 +67,9 @@ pub fn replay<D: Device>(
 ) -> Result<Option<usize>, Refusal>
     ensures { result ≡ replayed (D.meaning device.now) first second sequence.now }
 {
-    let members = device.members();
-    if first >= members || second >= members {
-        return Err(Refusal::NoSuchMember);
-    }
+    let product = Product::new(device, first, second)?;
     if !is_legal(device, sequence) {
         return Err(Refusal::BadSequence);
     }
-    Ok(first_difference(device, first, second, sequence))
+    Ok(difference(&product, sequence))
 }

@@ -1,8 +1,24 @@
+use std::fmt;
+
 // What a comparison says of two members.
-#[derive(Clone, Copy, PartialEq, Eq, Debug)]
+#[derive(Clone, Copy, PartialEq, Eq, Hash, Debug)]
 pub enum Verdict {
     // The first `length` letters are the least distinguishing sequence.
     Differ { length: usize },
     // The first `count` pairs are those that the product machine reaches.
     Equivalent { count: usize },
+}
+
+impl fmt::Display for Verdict {
+    ghost use Rattle.std.specs.Prelude.{Some};
+    ghost use Rattle.compare.specs.Verdicts.{verdict_text};
+
+    ghost output = { λ verdict. Some (verdict_text verdict) };
+
+    fn fmt<W: fmt::Write>(&self, f: &mut fmt::Formatter<W>) -> fmt::Result {
+        match self {
+            Verdict::Differ { length } => write!(f, "differ {length}"),
+            Verdict::Equivalent { count } => write!(f, "equivalent {count}"),
+        }
+    }
 }

@@ -1,3 +1,4 @@
 pub mod Graphs
 pub mod Visits
+pub mod Errors
 pub mod Answers

@@ -3,20 +3,17 @@ ghost use Rattle.search.specs.Answers.{FewLetters, Finds};
 
 use super::breadth_first::{Outcome, explore};
 use super::path::write_path;
+use super::search_error::SearchError;
 use super::visit::Visit;
 use super::walk::Walk;
 
 // What the search for the goal found.
-#[derive(Clone, Copy)]
+#[derive(Clone, Copy, PartialEq, Eq, Hash, Debug)]
 pub enum Found {
     // The first `length` entries of the answer slice are the least sequence that meets the goal.
     Goal { length: usize },
     // No sequence meets the goal: the first `count` visits are the reachable positions.
     Exhausted { count: usize },
-    // A work slice has fewer entries than the walk has positions.
-    WorkTooShort,
-    // The least sequence that meets the goal does not fit the answer slice, which is as it was.
-    AnswerTooShort,
 }
 
 // Searches for the least sequence that meets the walk's goal. No answer depends on what the work slices held.
@@ -25,19 +22,19 @@ pub fn shortest<W: Walk>(
     visits: &mut [Visit<W::Position>],
     marks: &mut [u32],
     answer: &mut [u8],
-) -> Found
+) -> Result<Found, SearchError>
     ensures answer { Finds (W.graph walk.now) (length visits.old) (length marks.old) answer.old result visits.new answer.new }
     ensures few { FewLetters (W.graph walk.now) result }
 {
     let count = walk.count();
     if visits.len() < count || marks.len() < count {
-        return Found::WorkTooShort;
+        return Err(SearchError::WorkTooShort);
     }
     match explore(walk, visits, marks) {
-        Outcome::Exhausted { count } => Found::Exhausted { count },
-        Outcome::Goal { at, letter } => match write_path(visits, at, letter, answer) {
-            Some(length) => Found::Goal { length },
-            None => Found::AnswerTooShort,
-        },
+        Outcome::Exhausted { count } => Ok(Found::Exhausted { count }),
+        Outcome::Goal { at, letter } => {
+            let length = write_path(visits, at, letter, answer)?;
+            Ok(Found::Goal { length })
+        }
     }
 }

@@ -4,10 +4,12 @@
 mod breadth_first;
 mod found;
 mod path;
+mod search_error;
 mod visit;
 mod walk;
 mod worklist;
 
 pub use found::{Found, shortest};
+pub use search_error::SearchError;
 pub use visit::Visit;
 pub use walk::Walk;

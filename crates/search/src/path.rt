@@ -2,6 +2,7 @@ ghost use Rattle.std.specs.Prelude.{◌≡◌, ℕ, ◌+◌, ◌<◌, ◌≤◌,
 ghost use Rattle.search.specs.Answers.{Written};
 ghost use Rattle.search.specs.Visits.{path, Chained};
 
+use super::search_error::SearchError;
 use super::visit::Visit;
 
 // How many back links lead from the visit to the start.
@@ -46,15 +47,15 @@ pub(crate) fn write_path<P: Copy>(
     at: usize,
     last: u8,
     answer: &mut [u8],
-) -> Option<usize>
+) -> Result<usize, SearchError>
     requires inside { at < length visits.now }
     requires chained { Chained visits.now (at + 1) }
     ensures { Written (path visits.now at ++ last ∷ []) answer.old result answer.new }
 {
     let length = depth(visits, at) + 1;
     if answer.len() < length {
-        return None;
+        return Err(SearchError::AnswerTooShort);
     }
     write_back(visits, at, last, &mut answer[0..length]);
-    Some(length)
+    Ok(length)
 }

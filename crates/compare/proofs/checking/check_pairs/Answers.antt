@@ -1,29 +1,20 @@
-use Rattle.std.proofs.Common.{is_some, sym, ap, ◌∙◌}
-use Rattle.std.proofs.lemmas.List.{at_drop_all}
-use Rattle.compare.specs.Checks.{flaw_at_places, in_table, listed}
-use Rattle.compare.specs.declared.finding.Finding.{Finding}
-use Rattle.compare.proofs.Flaws.{or_else_some, or_else_none, places_more, letters_alike}
+use Rattle.std.proofs.Common.{ℕ, ◌∙◌, rules}
+use Rattle.std.proofs.lemmas.Iterator.{YieldsList-from_slice}
+use Rattle.std.proofs.lemmas.Iterator.Consumers.{YieldsList-from_enumerate}
+use Rattle.machine.specs.declared.pair.Pair.{Pair}
+use Rattle.compare.specs.Checks.{flaw_at_letters, in_table, listed}
+use Rattle.compare.proofs.FirstOf.{first_of_find_map}
+use Rattle.compare.proofs.Flaws.{places_first, places_alike}
 use Rattle.compare.proofs.Tables.{next_inside}
 use Rattle.compare.proofs.checking.check_pairs.Goals as goal
 
-pub returns-then-is_some : goal.returns-then-is_some
-returns-then-is_some g c =
-    let m = g.D.Device.meaning c.args.device.now in
-    let flaw = c.check_pair-flaw.ensures ∙ letters_alike m c.args.first c.args.second (in_table m.states c.args.table.now) (listed c.args.pairs.now) (λ p l. c.requires.tabled _ (next_inside m (g.D.Device.sound c.args.device.now) c.args.first c.args.second p l)) c.loop-place.place _ 0 m.letters in
-    flaw
-    ∙ sym (or_else_some _ _ (ap (is_some {T = Finding}) (sym flaw) ∙ sym c.if-is_some.ensures))
-    ∙ sym (places_more m c.args.first c.args.second (listed c.args.pairs.now) c.loop-place.place c.args.pairs.now _ c.loop-place-test.true)
-    ∙ c.loop-place.invariant
-
-pub loop-place-preserved : goal.loop-place-preserved
-loop-place-preserved g c =
-    let m = g.D.Device.meaning c.args.device.now in
-    let flaw = c.check_pair-flaw.ensures ∙ letters_alike m c.args.first c.args.second (in_table m.states c.args.table.now) (listed c.args.pairs.now) (λ p l. c.requires.tabled _ (next_inside m (g.D.Device.sound c.args.device.now) c.args.first c.args.second p l)) c.loop-place.place _ 0 m.letters in
-    sym (or_else_none _ _ (ap (is_some {T = Finding}) (sym flaw) ∙ sym c.if-is_some.ensures))
-    ∙ sym (places_more m c.args.first c.args.second (listed c.args.pairs.now) c.loop-place.place c.args.pairs.now _ c.loop-place-test.true)
-    ∙ c.loop-place.invariant
-
 pub returns : goal.returns
 returns g c =
-    let m = g.D.Device.meaning c.args.device.now in
-    sym (at_drop_all (flaw_at_places m c.args.first c.args.second (listed c.args.pairs.now) c.loop-place.place) c.args.pairs.now c.loop-place.place c.loop-place-test.false) ∙ c.loop-place.invariant
+    let m = g.D.Device.meaning c.args.product.now.device.now in
+    let a = c.args.product.now.first in
+    let b = c.args.product.now.second in
+    let has = in_table c.args.set.now.states c.args.set.now.marked in
+    let h = λ (e : ℕ × Pair). flaw_at_letters m a b has e.0 e.1 0 m.letters in
+    first_of_find_map h _ _ c.find_map.ensures.runs (YieldsList-from_enumerate (YieldsList-from_slice c.args.pairs.now cc) cc) (λ x o q k. search rules)
+    ∙ places_first m a b has 0 c.args.pairs.now
+    ∙ places_alike m a b has (listed c.args.pairs.now) (λ p l. c.requires.all _ (rw c.requires.same (next_inside m (g.D.Device.sound c.args.product.now.device.now) a b p l))) 0 c.args.pairs.now

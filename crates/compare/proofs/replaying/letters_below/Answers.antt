@@ -1,13 +1,16 @@
-use Rattle.std.proofs.Common.{ltb, sym, ◌∙◌}
-use Rattle.std.proofs.lemmas.Bool.{lt-ltb, le-ltb}
-use Rattle.machine.proofs.All.{all_more, all_stops, all_ends}
+use Rattle.std.proofs.Common.{◌≡◌, Bool, ◌&&◌, List, [], ◌∷◌, ltb, rules, refl, ap, ◌∙◌}
+use borrow.Author.Tests.{tests}
+use Rattle.std.proofs.lemmas.Iterator.{YieldsList-from_slice}
+use Rattle.std.proofs.lemmas.Iterator.Search.{all_from_yields_List}
+use Rattle.std.specs.List.{list_all}
+use Rattle.machine.specs.Lists.{all}
 use Rattle.compare.proofs.replaying.letters_below.Goals as goal
 
-pub returns-then-letter-count : goal.returns-then-letter-count
-returns-then-letter-count c = sym (all_stops (λ x. ltb x c.args.count) c.args.sequence.now c.loop-letter.letter-index 0 c.loop-letter-test.true (le-ltb _ _ c.if-letter-count.true)) ∙ c.loop-letter.invariant
-
-pub loop-letter-preserved : goal.loop-letter-preserved
-loop-letter-preserved c = all_more (λ x. ltb x c.args.count) c.args.sequence.now c.loop-letter.letter-index 0 c.loop-letter-test.true (lt-ltb _ _ c.if-letter-count.false) ∙ c.loop-letter.invariant
+list_all_is : {X : Type 0} (test : X → Bool) (xs : List X) → list_all test xs ≡ all test xs
+list_all_is test [] = refl
+list_all_is test (x ∷ xs) = ap (λ t. test x && t) (list_all_is test xs)
 
 pub returns : goal.returns
-returns c = sym (all_ends (λ x. ltb x c.args.count) c.args.sequence.now c.loop-letter.letter-index c.loop-letter-test.false) ∙ c.loop-letter.invariant
+returns c =
+    all_from_yields_List (λ l. ltb l c.args.count) _ _ _ c.all.ensures.ran (YieldsList-from_slice c.args.sequence.now cc) (λ x b q k. search (rules, tests))
+    ∙ list_all_is (λ l. ltb l c.args.count) c.args.sequence.now

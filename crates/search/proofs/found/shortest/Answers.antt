@@ -1,17 +1,28 @@
-use Rattle.std.proofs.Common.{ℕ, List, [], ◌∷◌, ◌++◌, arith}
+use Rattle.std.proofs.Common.{ℕ, ◌<◌, ◌≤◌, List, length, Ok, Err, Result, IsErr, arith}
 use Rattle.std.proofs.lemmas.List.{length_push}
-use Rattle.search.specs.Visits.{path}
+use Rattle.search.specs.Answers.{FewLetters}
+use Rattle.search.specs.Graphs.{Graph, LeastGoal}
+use Rattle.search.specs.Visits.{path, GoalAt}
+use Rattle.search.specs.declared.found.Found.{Found}
+use Rattle.search.specs.declared.search_error.SearchError.{SearchError}
+use Rattle.search.specs.declared.search_error.SearchError.TheVariants.{WorkTooShort, AnswerTooShort}
+use Rattle.search.specs.declared.visit.Visit.{Visit}
 use Rattle.search.proofs.Paths.{no_longer, path_short}
 use Rattle.search.proofs.found.shortest.Goals as goal
 
-pub returns-in-Some-clause-few : goal.returns-in-Some-clause-few
-returns-in-Some-clause-few g c =
-    let xs = c.explore.new.visits in
-    omega (arith, c.in-Some.ensures.0, length_push (path xs c.in-Goal.at) c.in-Goal.letter, path_short xs c.in-Goal.at, c.in-Goal.ensures.early)
+few : {P : Type 0} {g : Graph P} {xs : List (Visit P)} {at letter : ℕ} → GoalAt g xs at letter → at < g.count → (s : List ℕ) → LeastGoal g s → length s ≤ g.count
+few {xs = xs} {at = at} {letter = letter} found early s l =
+    omega (arith, no_longer s _ (l.least _ found.least.letters found.least.meets), length_push (path xs at) letter, path_short xs at)
 
-pub returns-in-None-clause-few : goal.returns-in-None-clause-few
-returns-in-None-clause-few g c = λ s l.
-    let xs = c.explore.new.visits in
-    let found = c.in-Goal.ensures.explored.least in
-    let t : List ℕ = path xs c.in-Goal.at ++ c.in-Goal.letter ∷ [] in
-    omega (arith, no_longer s t (l.least t found.letters found.meets), length_push (path xs c.in-Goal.at) c.in-Goal.letter, path_short xs c.in-Goal.at, c.in-Goal.ensures.early)
+few_err : {P : Type 0} (g : Graph P) (r : Result Found SearchError) → IsErr r → ((s : List ℕ) → LeastGoal g s → length s ≤ g.count) → FewLetters g r
+few_err g (Ok f) e least = cc
+few_err g (Err WorkTooShort) e least = tt
+few_err g (Err AnswerTooShort) e least = least
+
+pub returns-in_ok-length-in-Goal-clause-few : goal.returns-in_ok-length-in-Goal-clause-few
+returns-in_ok-length-in-Goal-clause-few g c =
+    let found = c.in-Goal.ensures.explored in
+    omega (arith, c.in_ok-length-in-Goal.ensures.0, few found c.in-Goal.ensures.early _ found.least)
+
+pub returns-in_err-length-in-Goal-clause-few : goal.returns-in_err-length-in-Goal-clause-few
+returns-in_err-length-in-Goal-clause-few g c = few_err _ _ c.from_residual.ensures.0 (few c.in-Goal.ensures.explored c.in-Goal.ensures.early)

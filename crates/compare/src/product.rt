@@ -1,9 +1,9 @@
-ghost use Rattle.std.specs.Prelude.{◌≡◌};
-ghost use Rattle.machine.specs.Products.{reset_pair};
+ghost use Rattle.std.specs.Prelude.{◌≡◌, ◌⊎◌, ◌≤◌, IfErr, IfOk, OnErr, OnOk};
+ghost use Rattle.compare.specs.Comparisons.{Members};
 ghost use Rattle.compare.specs.Soundness.{pair_sound};
 ghost use Rattle.compare.specs.Walks.{pair_graph, pair_number, PairInside};
 
-use machine::{Device, Pair, outputs_differ};
+use machine::{Device, Pair, Refusal};
 use search::Walk;
 
 // The number of a pair of states: pairs of states below the count have different numbers.
@@ -13,25 +13,35 @@ pub(crate) fn pair_number(states: u16, pair: Pair) -> usize
     pair.first as usize * states as usize + pair.second as usize
 }
 
-// The pair of resets of two members.
-pub(crate) fn reset_pair<D: Device>(device: &D, first: u16, second: u16) -> Pair
-    ensures { result ≡ reset_pair (D.meaning device.now) first second }
-{
-    Pair {
-        first: device.reset(first),
-        second: device.reset(second),
-    }
-}
-
-// Two members side by side from their resets: a position is a pair of states, and unequal outputs are the goal.
+// The product machine of two members, from their resets: a position is a pair of states, and unequal outputs are the goal.
 #[derive(Clone, Copy)]
-pub(crate) struct PairWalk<'a, D> {
+pub(crate) struct Product<'a, D> {
     pub(crate) device: &'a D,
     pub(crate) first: u16,
     pub(crate) second: u16,
 }
 
-impl<'a, D: Device> Walk for PairWalk<'a, D> {
+impl<'a, D: Device> Product<'a, D> {
+    // Refuses two numbers that are not both members of the device.
+    pub(crate) fn new(device: &'a D, first: u16, second: u16) -> Result<Product<'a, D>, Refusal>
+        ensures product { IfOk result (λ p. p ≡ record { device = device.entry; first = first; second = second }) }
+        ensures members { OnOk result (Members (D.meaning device.now) first second) }
+        ensures refusal { IfErr result (λ e. e ≡ Refusal.NoSuchMember) }
+        ensures strangers { OnErr result (((D.meaning device.now).members ≤ first) ⊎ ((D.meaning device.now).members ≤ second)) }
+    {
+        let members = device.members();
+        if first >= members || second >= members {
+            return Err(Refusal::NoSuchMember);
+        }
+        Ok(Product {
+            device,
+            first,
+            second,
+        })
+    }
+}
+
+impl<'a, D: Device> Walk for Product<'a, D> {
     type Position = Pair;
 
     ghost graph = { λ w. pair_graph (D.Device.meaning w.device.now) w.first w.second };
@@ -40,8 +50,12 @@ impl<'a, D: Device> Walk for PairWalk<'a, D> {
 
     ghost sound = { λ w. pair_sound (D.Device.meaning w.device.now) (D.Device.sound w.device.now) w.first w.second };
 
+    // The pair of resets.
     fn start(&self) -> Pair {
-        reset_pair(self.device, self.first, self.second)
+        Pair {
+            first: self.device.reset(self.first),
+            second: self.device.reset(self.second),
+        }
     }
 
     fn letters(&self) -> u8 {
@@ -60,7 +74,7 @@ impl<'a, D: Device> Walk for PairWalk<'a, D> {
     fn step(&self, position: Pair, letter: u8) -> Option<Pair> {
         let (first, x) = self.device.step(self.first, position.first, letter);
         let (second, y) = self.device.step(self.second, position.second, letter);
-        if outputs_differ(x, y) {
+        if x != y {
             None
         } else {
             Some(Pair { first, second })

@@ -1,9 +1,0 @@
-use Rattle.std.proofs.Common.{◌≡◌, ◌-◌}
-use Rattle.compare.specs.Checks.{flaw_at_letters, in_table}
-use Rattle.compare.proofs.checking.check_letters.Given as goal
-
--- the letters that are left decide
-abbrev pub invariant-loop-letter : goal.invariant-loop-letter
-invariant-loop-letter g l =
-    let m = g.D.Device.meaning l.device in
-    flaw_at_letters m l.first l.second (in_table m.states l.table) l.place l.pair l.letter (l.letters - l.letter) ≡ flaw_at_letters m l.first l.second (in_table m.states l.table) l.place l.pair 0 l.letters

@@ -1,0 +1,63 @@
+ghost use Rattle.std.specs.Prelude.{◌≡◌, ◌*◌, ◌≤◌, ◌++◌, true, List, [], ◌∷◌, length, Ok, Err, if◌then◌else◌, OnOk};
+ghost use Rattle.compare.specs.Checks.{TableOf, in_table, pair_inside, pairs_inside};
+
+use super::product::pair_number;
+use machine::{Pair, Refusal};
+
+// As many pairs of states as a device can have.
+const PAIRS: usize = 65536;
+
+// A set of pairs of states: a mark for the number of each.
+#[derive(Drop)]
+pub(crate) struct PairSet {
+    states: u16,
+    marked: [bool; PAIRS],
+    ghost room: { states * states ≤ length marked },
+}
+
+impl PairSet {
+    // The empty set.
+    pub(crate) fn new(states: u16) -> PairSet
+        requires { states ≤ 256 }
+        ensures states { result.states ≡ states }
+        ensures empty { TableOf states [] result.marked }
+    {
+        PairSet {
+            states,
+            marked: [false; PAIRS],
+        }
+    }
+
+    pub(crate) fn contains(&self, pair: Pair) -> bool
+        requires { pair_inside self.now.states pair ≡ true }
+        ensures { result ≡ in_table self.now.states self.now.marked pair }
+    {
+        self.marked[pair_number(self.states, pair)]
+    }
+
+    // Puts in a pair, or refuses one that is out of range.
+    fn insert(&mut self, pair: Pair) -> Result<(), Refusal>
+        ensures inside { result ≡ (if pair_inside self.old.states pair then Ok tt else Err Refusal.OutOfRange) }
+        ensures states { self.new.states ≡ self.old.states }
+        ensures more { OnOk result ((ps : List Pair) → TableOf self.old.states ps self.old.marked → TableOf self.new.states (ps ++ pair ∷ []) self.new.marked) }
+    {
+        if pair.first >= self.states || pair.second >= self.states {
+            return Err(Refusal::OutOfRange);
+        }
+        self.marked[pair_number(self.states, pair)] = true;
+        Ok(())
+    }
+
+    // Puts the pairs into the empty set, or refuses one that is out of range.
+    pub(crate) fn insert_all(&mut self, pairs: &[Pair]) -> Result<(), Refusal>
+        requires empty { TableOf self.old.states [] self.old.marked }
+        ensures inside { result ≡ (if pairs_inside self.old.states pairs.now then Ok tt else Err Refusal.OutOfRange) }
+        ensures states { self.new.states ≡ self.old.states }
+        ensures all { OnOk result (TableOf self.new.states pairs.now self.new.marked) }
+    {
+        for pair in pairs {
+            self.insert(*pair)?;
+        }
+        Ok(())
+    }
+}

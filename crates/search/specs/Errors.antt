@@ -1,0 +1,10 @@
+-- Why a search gave no answer, and how its callers say so.
+use Rattle.machine.specs.declared.refusal.Refusal.{Refusal}
+use Rattle.machine.specs.declared.refusal.Refusal.TheVariants as refusal
+use Rattle.search.specs.declared.search_error.SearchError.{SearchError}
+use Rattle.search.specs.declared.search_error.SearchError.TheVariants.{WorkTooShort, AnswerTooShort}
+
+-- the refusal of the same name
+abbrev pub refusal_of : SearchError → Refusal
+refusal_of WorkTooShort = refusal.WorkTooShort
+refusal_of AnswerTooShort = refusal.AnswerTooShort
