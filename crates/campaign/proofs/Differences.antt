@@ -1,6 +1,6 @@
 -- A replay finds a difference exactly where the sequence distinguishes the two members.
 use Rattle.std.proofs.Common.{◌≡◌, ℕ, zero, suc, ◌+◌, ◌<◌, ◌≤◌, Bool, true, false, cond, ltb, leb, List, [], ◌∷◌, length, get_or, is_some, Some, refl, inl, inr, arith}
-use Rattle.std.proofs.lemmas.Bool.{both_ways, and_parts, ltb-true}
+use Rattle.std.proofs.lemmas.Bool.{and_parts, ltb-true}
 use Rattle.machine.specs.Lists.{all}
 use Rattle.machine.specs.Machines.{Machine, reset_of, step_of}
 use Rattle.machine.specs.Outputs.{differ, outputs_from, difference_from, first_difference, Distinguishes, Equivalent, LeastDistinguishing}
@@ -31,7 +31,7 @@ module _ (m : Machine) (a b : ℕ) where
   finds i p q s = is_some (difference_from i (outputs_from m a p s) (outputs_from m b q s))
 
   found_differs : (s : List ℕ) (i p q : ℕ) → finds i p q s ≡ true → (k : ℕ) × (k < length s) × (differ_from p q s k ≡ true)
-  found_differs [] i p q e = absurd (both_ways false refl e)
+  found_differs [] i p q e = absurd (cc)
   found_differs (l ∷ s) i p q e = go (differ (step_of m a p l).1 (step_of m b q l).1) refl e (found_differs s)
     where
       go : (t : Bool) → differ (step_of m a p l).1 (step_of m b q l).1 ≡ t
@@ -50,7 +50,7 @@ module _ (m : Machine) (a b : ℕ) where
           → ((i p q k : ℕ) → k < length s → differ_from p q s k ≡ true → finds i p q s ≡ true)
           → is_some (cond t (Some i) (difference_from (i + 1) (outputs_from m a (step_of m a p l).0 s) (outputs_from m b (step_of m b q l).0 s))) ≡ true
       go true e k low d ih = refl
-      go false e zero low d ih = absurd (both_ways _ e d)
+      go false e zero low d ih = absurd (cc)
       go false e (suc k) low d ih = ih _ _ _ k (omega arith) d
 
   pub found_distinguishes : (s : List ℕ) → Letters m.letters s → is_some (first_difference m a b s) ≡ true → Distinguishes m a b s
@@ -62,7 +62,7 @@ module _ (m : Machine) (a b : ℕ) where
   distinguishes_found s d = differs_found s 0 (reset_of m a) (reset_of m b) d.place d.inside d.differs
 
   pub equivalent_never : Equivalent m a b → (s : List ℕ) → Distinguishes m a b s → ⊥
-  equivalent_never same s d = both_ways _ (same s d.letters d.place d.inside) d.differs
+  equivalent_never same s d = let differs = d.differs in cc (same s d.letters d.place d.inside)
 
   pub least_same : (s t : List ℕ) → LeastDistinguishing m a b s → LeastDistinguishing m a b t → s ≡ t
   least_same s t x y = at_most_antisymmetric s t (x.least t y.distinguishes) (y.least s x.distinguishes)

@@ -1,7 +1,6 @@
 -- What a grading shows of the mark before it, and where a kept sequence stands.
-use Rattle.std.proofs.Common.{◌≡◌, ℕ, zero, suc, ◌+◌, ◌-◌, ◌<◌, ◌≤◌, Bool, true, false, cond, ◌⊎◌, List, [], ◌∷◌, ◌++◌, length, get_or, replicate, is_some, refl, subst, inl, inr, arith}
+use Rattle.std.proofs.Common.{◌≡◌, ℕ, zero, suc, ◌+◌, ◌-◌, ◌<◌, Bool, true, false, cond, ◌⊎◌, List, [], ◌∷◌, ◌++◌, length, get_or, replicate, is_some, refl, subst, inl, inr, arith}
 use Rattle.std.proofs.lemmas.List.{length_push, get_or_append_left, get_or_push}
-use Rattle.std.proofs.lemmas.Bool.{cases_eq}
 use Rattle.machine.specs.Machines.{Machine}
 use Rattle.machine.specs.Outputs.{first_difference}
 use Rattle.campaign.specs.Books.{Entry, entry, Numbered, numbered}
@@ -10,19 +9,6 @@ use Rattle.campaign.specs.Rules.{graded}
 use Rattle.campaign.specs.declared.mark.Mark.{Mark}
 use Rattle.campaign.specs.declared.mark.Mark.TheVariants.{Open, Found, Undetectable}
 
--- two marks are never the same
-pub open_found : (k : Mark) (n : ℕ) → k ≡ Open → k ≡ Found n → ⊥
-open_found k n p q = let z : ◌≡◌ {A = ℕ} 0 1 = cc in omega arith
-
-pub open_undetectable : (k : Mark) → k ≡ Open → k ≡ Undetectable → ⊥
-open_undetectable k p q = let z : ◌≡◌ {A = ℕ} 0 1 = cc in omega arith
-
-pub found_undetectable : (k : Mark) (n : ℕ) → k ≡ Found n → k ≡ Undetectable → ⊥
-found_undetectable k n p q = let z : ◌≡◌ {A = ℕ} 0 1 = cc in omega arith
-
-pub same_found : (k : Mark) (n i : ℕ) → k ≡ Found n → k ≡ Found i → n ≡ i
-same_found k n i p q = cc
-
 pub all_open : (n f : ℕ) → get_or (replicate n Open) f Open ≡ Open
 all_open zero f = refl
 all_open (suc n) zero = refl
@@ -30,26 +16,26 @@ all_open (suc n) (suc f) = all_open n f
 
 module _ (m : Machine) (s : List ℕ) (n f : ℕ) where
   stays_open : (t : Bool) → cond t (Found n) Open ≡ Open → t ≡ false
-  stays_open true e = absurd (open_found (Found n) n e refl)
+  stays_open true e = cc
   stays_open false e = refl
 
   is_found : (t : Bool) (i : ℕ) → cond t (Found n) Open ≡ Found i → (t ≡ true) × (n ≡ i)
-  is_found true i e = (refl, same_found (Found n) n i refl e)
-  is_found false i e = absurd (open_found Open i refl e)
+  is_found true i e = (refl, cc)
+  is_found false i e = absurd (cc)
 
   not_undetectable : (t : Bool) → cond t (Found n) Open ≡ Undetectable → ⊥
-  not_undetectable true e = found_undetectable (Found n) n refl e
-  not_undetectable false e = open_undetectable Open refl e
+  not_undetectable true e = cc
+  not_undetectable false e = cc
 
   pub graded_open : (k : Mark) → graded m s n f k ≡ Open → (k ≡ Open) × (is_some (first_difference m 0 f s) ≡ false)
   graded_open Open e = (refl, stays_open (is_some (first_difference m 0 f s)) e)
-  graded_open (Found i) e = absurd (open_found (Found i) i e refl)
-  graded_open Undetectable e = absurd (open_undetectable Undetectable e refl)
+  graded_open (Found i) e = absurd (cc)
+  graded_open Undetectable e = absurd (cc)
 
   pub graded_found : (k : Mark) (i : ℕ) → graded m s n f k ≡ Found i → (k ≡ Found i) ⊎ ((k ≡ Open) × (is_some (first_difference m 0 f s) ≡ true) × (n ≡ i))
   graded_found Open i e = let p = is_found (is_some (first_difference m 0 f s)) i e in inr (refl, p.0, p.1)
   graded_found (Found j) i e = inl e
-  graded_found Undetectable i e = absurd (found_undetectable Undetectable i e refl)
+  graded_found Undetectable i e = absurd (cc)
 
   pub graded_undetectable : (k : Mark) → graded m s n f k ≡ Undetectable → k ≡ Undetectable
   graded_undetectable Open e = absurd (not_undetectable (is_some (first_difference m 0 f s)) e)
@@ -91,14 +77,4 @@ module _ (es : List Entry) (e : Entry) where
   numbered_new n h = get_or_push es e (entry [] 0) (n - 1) (omega arith)
 
   pub old_or_new : (n : ℕ) → Numbered (es ++ e ∷ []) n → Numbered es n ⊎ (n ≡ length es + 1)
-  old_or_new n h = go (cases_eq n (length es + 1))
-    where
-      low : 0 < n
-      low = h.0
-
-      high : n ≤ length es + 1
-      high = let x = h.1 in omega (arith, length_push es e)
-
-      go : (n ≡ length es + 1) ⊎ (n ≡ length es + 1 → ⊥) → Numbered es n ⊎ (n ≡ length es + 1)
-      go (inl same) = inr same
-      go (inr other) = inl (low, omega (arith, high))
+  old_or_new n h = let low = h.0 in let high = h.1 in grind (arith, length_push es e)

@@ -1,6 +1,7 @@
 -- What every history of calls keeps, and what follows from it for one fault.
-use Rattle.std.proofs.Common.{◌≡◌, ℕ, Bool, true, false, cond, ◌&&◌, ltb, ◌⊎◌, List, Ok, Err, Result, refl, ap, ◌∙◌, inl, inr, arith}
-use Rattle.std.proofs.lemmas.Bool.{both_ways, and_parts, and_from, ltb-true, lt-ltb}
+use Rattle.std.proofs.Common.{◌≡◌, ℕ, ◌<◌, ◌≤◌, cond, ◌&&◌, ltb, ◌⊎◌, List, Ok, Err, Result, refl, ap, ◌∙◌, inl, inr, arith}
+use Rattle.std.proofs.lemmas.Bool.{cases_lt}
+use Rattle.std.proofs.lemmas.Bool.Decides.{nat_tests}
 use Rattle.machine.specs.Machines.{Machine}
 use Rattle.machine.specs.Outputs.{Distinguishes, Equivalent}
 use Rattle.machine.specs.declared.refusal.Refusal.{Refusal}
@@ -69,7 +70,7 @@ module _ {m : Machine} {evs : List Event} {es : List Entry} {marks : ℕ → Mar
 
   mark_told : (r : Result Mark Refusal) → r ≡ Ok (marks f) → TrueMark m evs es f r
   mark_told r e = record {
-    refused = (λ o. absurd (let z : ◌≡◌ {A = ℕ} 0 1 = cc in omega arith), λ out. absurd (out fault));
+    refused = (λ o. absurd (cc), λ out. absurd (out fault));
     undetectable = (
       λ o. let u : marks f ≡ Undetectable = cc in let x = h.never f fault u in (fault, x.0, x.1),
       λ x. e ∙ ap Ok (is_undetectable x.2 (h.worked f x.1)),
@@ -90,14 +91,15 @@ module _ {m : Machine} {evs : List Event} {es : List Entry} {marks : ℕ → Mar
 mark_refused : (m : Machine) (evs : List Event) (es : List Entry) (f : ℕ) (r : Result Mark Refusal) → (Fault m f → ⊥) → r ≡ Err NoSuchMember → TrueMark m evs es f r
 mark_refused m evs es f r out e = record {
   refused = (λ o. out, λ x. e);
-  undetectable = (λ o. absurd (let z : ◌≡◌ {A = ℕ} 0 1 = cc in omega arith), λ x. absurd (out x.0));
-  found = λ n. (λ o. absurd (let z : ◌≡◌ {A = ℕ} 0 1 = cc in omega arith), λ x. absurd (out x.0));
+  undetectable = (λ o. absurd (cc), λ x. absurd (out x.0));
+  found = λ n. (λ o. absurd (cc), λ x. absurd (out x.0));
   cases = inl e;
 }
 
 pub true_mark : {m : Machine} {evs : List Event} {es : List Entry} {marks : ℕ → Mark} → Holds m evs es marks → (f : ℕ) (r : Result Mark Refusal) → r ≡ cond (ltb 0 f && ltb f m.members) (Ok (marks f)) (Err NoSuchMember) → TrueMark m evs es f r
-true_mark {m} {evs} {es} {marks} h f r e = go (ltb 0 f && ltb f m.members) refl e
+true_mark {m} {evs} {es} {marks} h f r e = go (cases_lt 0 f) (cases_lt f m.members)
   where
-    go : (t : Bool) → (ltb 0 f && ltb f m.members) ≡ t → r ≡ cond t (Ok (marks f)) (Err NoSuchMember) → TrueMark m evs es f r
-    go true p o = let x = and_parts (ltb 0 f) (ltb f m.members) p in mark_told h f (ltb-true 0 f x.0, ltb-true f m.members x.1) r o
-    go false p o = mark_refused m evs es f r (λ x. both_ways _ p (and_from (ltb 0 f) (ltb f m.members) (lt-ltb 0 f x.0) (lt-ltb f m.members x.1))) o
+    go : (0 < f) ⊎ (f ≤ 0) → (f < m.members) ⊎ (m.members ≤ f) → TrueMark m evs es f r
+    go (inl some) (inl low) = mark_told h f (some, low) r (grind (arith, nat_tests))
+    go (inr none) low = mark_refused m evs es f r (λ x. let some = x.0 in omega arith) (grind (arith, nat_tests))
+    go some (inr high) = mark_refused m evs es f r (λ x. let low = x.1 in omega arith) (grind (arith, nat_tests))

@@ -1,21 +1,18 @@
 -- Every history of calls on a fresh campaign is told truly, by induction over the calls.
-use Rattle.std.proofs.Common.{◌≡◌, ℕ, ◌+◌, Bool, true, false, cond, ltb, leb, List, [], ◌∷◌, length, get_or, Ok, Err, Result, sym, refl, ap, ◌∙◌, subst, inl, inr, arith}
-use Rattle.std.proofs.lemmas.Bool.{both_ways, ltb-true, lt-ltb, leb-true, le-leb}
+use Rattle.std.proofs.Common.{◌≡◌, ℕ, true, List, [], ◌∷◌, length, get_or, Some, None, Ok, Err, Option, Result, sym, refl, ap, ◌∙◌, subst, inl, inr, arith}
+use Rattle.std.proofs.lemmas.Bool.Decides.{nat_tests}
 use Rattle.machine.specs.Machines.{Machine}
 use Rattle.machine.specs.Outputs.{Distinguishes, Equivalent, LeastDistinguishing}
 use Rattle.machine.specs.Sequences.{legal}
 use Rattle.machine.specs.declared.refusal.Refusal.{Refusal}
-use Rattle.machine.specs.declared.refusal.Refusal.TheVariants.{BadSequence, SequencesFull, LettersFull}
 use Rattle.compare.specs.Comparisons.{PairWork}
-use Rattle.campaign.specs.Books.{Entry, entry, Book, mark_of, letters_in}
+use Rattle.campaign.specs.Books.{Entry, entry, Book, mark_of}
 use Rattle.campaign.specs.Histories.{judge, Event, judged, admitted, marked_as, was_read, calls, Run, made, after_judge, after_admit, after_mark, after_read, Judges, CallKeeps, none, TrueRefusal, ShortestFor, begin, Lawful}
 use Rattle.campaign.specs.Rules.{Fault, HasNumber, HasLetters, ShortWork, Fresh, Keeps, admission, Admitted, JudgementRefused, Judged}
-use Rattle.campaign.specs.declared.judgement.Judgement.{Judgement}
-use Rattle.campaign.specs.declared.judgement.Judgement.TheVariants.{Undetectable as Never, Kept}
 use Rattle.campaign.specs.declared.mark.Mark.{Mark}
 use Rattle.campaign.specs.declared.mark.Mark.TheVariants.{Open}
 use Rattle.campaign.proofs.Differences.{legal_letters, at_most_length, equivalent_never, least_same}
-use Rattle.campaign.proofs.Grades.{open_found, open_undetectable, all_open}
+use Rattle.campaign.proofs.Grades.{all_open}
 use Rattle.campaign.proofs.Steps.{quiet, one_kept, one_settled}
 use Rattle.campaign.proofs.Held.{Holds, open_unsettled, closed_settled, true_mark}
 
@@ -64,16 +61,16 @@ module _ {m : Machine} {evs : List Event} (b : Book) (f v w : ℕ) (r : Refusal)
       go (inr (there, inr (opened, inl (is, short)))) = short_long m v w short j.1
       go (inr (there, inr (opened, inr (work, (t, least, full))))) = equivalent_never m 0 f (subst (λ (k : ℕ). Equivalent m 0 k) is_f same) t least.distinguishes
 
-step_judged : {m : Machine} {evs : List Event} (before after : Book) (f v w : ℕ) (r : Result Judgement Refusal) → KeepsLaw m evs before → Judged m before f v w r after → KeepsLaw m (judged f v w r ∷ evs) after
-step_judged before after f v w (Ok Never) h p =
+step_judged : {m : Machine} {evs : List Event} (before after : Book) (f v w : ℕ) (r : Result (Option ℕ) Refusal) → KeepsLaw m evs before → Judged m before f v w r after → KeepsLaw m (judged f v w r ∷ evs) after
+step_judged before after f v w (Ok None) h p =
     moved p.4.kept (one_settled h p.0 p.1 p.2 p.3 p.4.here p.4.elsewhere)
-step_judged {m} {evs} before after f v w (Ok (Kept n)) h p =
-    moved x.4.kept (one_kept h (judged f v w (Ok (Kept n))) (p.3, (x.0, keeps)) keeps x.1.distinguishes.letters x.4.marks
+step_judged {m} {evs} before after f v w (Ok (Some n)) h p =
+    moved x.4.kept (one_kept h (judged f v w (Ok (Some n))) (p.3.0, (x.0, keeps)) keeps x.1.distinguishes.letters x.4.marks
     (λ g j. subst (λ (k : ℕ). Distinguishes m 0 k x.0) j.0 x.1.distinguishes)
     (λ g q. (q, p.2)) (least_shortest x.1))
   where
     x : (s : List ℕ) × LeastDistinguishing m 0 f s × HasNumber before.kept × HasLetters before.kept s × Keeps m before s f after
-    x = p.4
+    x = p.3.1
 
     keeps : CallKeeps m (calls evs) before.kept (judge f v w) x.0 f
     keeps = (refl, p.0, open_unsettled h f p.0 p.1, p.2, x.1, x.2, x.3)
@@ -84,24 +81,10 @@ step_judged {m} {evs} before after f v w (Err r) h p =
 -- what an admission's answer says of the sequence
 module _ (m : Machine) (es : List Entry) (s : List ℕ) where
   admits : (n : ℕ) → admission m es s ≡ Ok n → (legal m.letters s ≡ true) × HasNumber es × HasLetters es s
-  admits n e = go (legal m.letters s) refl (ltb (length es) 256) refl (leb (letters_in es + length s) 16384) refl e
-    where
-      go : (t : Bool) → legal m.letters s ≡ t → (u : Bool) → ltb (length es) 256 ≡ u → (k : Bool) → leb (letters_in es + length s) 16384 ≡ k
-          → cond t (cond u (cond k (Ok (length es + 1)) (Err LettersFull)) (Err SequencesFull)) (Err BadSequence) ≡ Ok n
-          → (legal m.letters s ≡ true) × HasNumber es × HasLetters es s
-      go true p true q true x o = (p, ltb-true _ _ q, leb-true _ _ x)
-      go true p true q false x o = absurd (let z : ◌≡◌ {A = ℕ} 0 1 = cc in omega arith)
-      go true p false q k x o = absurd (let z : ◌≡◌ {A = ℕ} 0 1 = cc in omega arith)
-      go false p u q k x o = absurd (let z : ◌≡◌ {A = ℕ} 0 1 = cc in omega arith)
+  admits n e = (grind (arith, nat_tests), grind (arith, nat_tests), grind (arith, nat_tests))
 
   refuses : (r : Refusal) → admission m es s ≡ Err r → (legal m.letters s ≡ true) → HasNumber es → HasLetters es s → ⊥
-  refuses r e p q x = go (legal m.letters s) p (ltb (length es) 256) (lt-ltb (length es) 256 q) (leb (letters_in es + length s) 16384) (le-leb (letters_in es + length s) 16384 x) e
-    where
-      go : (t : Bool) → t ≡ true → (u : Bool) → u ≡ true → (k : Bool) → k ≡ true → cond t (cond u (cond k (Ok (length es + 1)) (Err LettersFull)) (Err SequencesFull)) (Err BadSequence) ≡ Err r → ⊥
-      go true p true q true x o = let z : ◌≡◌ {A = ℕ} 0 1 = cc in omega arith
-      go true p true q false x o = both_ways false refl x
-      go true p false q k x o = both_ways false refl q
-      go false p u q k x o = both_ways false refl p
+  refuses r e p q x = grind (arith, nat_tests)
 
 -- what is kept with origin 0 was kept for no fault
 client_shortest : (m : Machine) (s : List ℕ) → ShortestFor m (entry s 0)
@@ -122,8 +105,8 @@ start_holds m start fresh = moved fresh.none_kept (record {
   kept = none;
   shortest = λ n i. let low = i.0 in let high = i.1 in absurd (omega arith);
   open_none = λ f fault p n i d. let low = i.0 in let high = i.1 in omega arith;
-  found_first = λ f n fault p. absurd (open_found _ n (opened f) p);
-  never = λ f fault p. absurd (open_undetectable _ (opened f) p);
+  found_first = λ f n fault p. absurd (cc (opened f));
+  never = λ f fault p. absurd (cc (opened f));
   settles = λ f fault same js p. js;
   worked = λ f ws. absurd ws;
 })

@@ -1,4 +1,3 @@
-pub mod Parts
 pub mod Entries
 pub mod Searching
 pub mod Differences

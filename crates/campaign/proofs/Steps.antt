@@ -1,7 +1,7 @@
 -- One call more keeps what every history keeps: nothing changes, a sequence is kept, or a fault is settled.
-use Rattle.std.proofs.Common.{◌≡◌, ℕ, ◌+◌, ◌≤◌, true, false, ◌⊎◌, List, [], ◌∷◌, ◌++◌, length, is_some, Ok, sym, refl, ap, ◌∙◌, subst, inl, inr, arith}
+use Rattle.std.proofs.Common.{◌≡◌, ℕ, ◌+◌, ◌≤◌, true, false, ◌⊎◌, List, [], ◌∷◌, ◌++◌, length, is_some, None, Ok, sym, ap, ◌∙◌, subst, inl, inr, arith}
 use Rattle.std.proofs.lemmas.List.{length_push}
-use Rattle.std.proofs.lemmas.Bool.{both_ways, cases_eq}
+use Rattle.std.proofs.lemmas.Bool.{cases_eq}
 use Rattle.machine.specs.Machines.{Machine}
 use Rattle.machine.specs.Outputs.{first_difference, Distinguishes, Equivalent}
 use Rattle.machine.specs.Sequences.{Letters}
@@ -9,11 +9,10 @@ use Rattle.compare.specs.Comparisons.{PairWork}
 use Rattle.campaign.specs.Books.{Entry, entry, Numbered, numbered}
 use Rattle.campaign.specs.Histories.{Event, judged, call_of, calls, SomeOf, Judges, CallKeeps, one_more, no_more, JudgedWell, First, TrueEvent, ShortestFor, next}
 use Rattle.campaign.specs.Rules.{Fault, graded}
-use Rattle.campaign.specs.declared.judgement.Judgement.TheVariants.{Undetectable as Never}
 use Rattle.campaign.specs.declared.mark.Mark.{Mark}
 use Rattle.campaign.specs.declared.mark.Mark.TheVariants.{Open, Found, Undetectable}
 use Rattle.campaign.proofs.Differences.{found_distinguishes, distinguishes_found, equivalent_never}
-use Rattle.campaign.proofs.Grades.{open_undetectable, found_undetectable, graded_open, graded_found, graded_undetectable, number_kept, numbered_old, numbered_new, old_or_new}
+use Rattle.campaign.proofs.Grades.{graded_open, graded_found, graded_undetectable, number_kept, numbered_old, numbered_new, old_or_new}
 use Rattle.campaign.proofs.Held.{Holds, open_unsettled}
 
 -- nothing changes
@@ -90,7 +89,7 @@ module _ {m : Machine} {evs : List Event} {es : List Entry} {marks marks' : ℕ 
 
       go : Numbered es n ⊎ (n ≡ length es + 1) → ⊥
       go (inl o) = h.open_none f fault g.0 n o (back f n o d)
-      go (inr o) = both_ways _ g.1 (distinguishes_found m 0 f s (last f n o d))
+      go (inr o) = cc (g.1, distinguishes_found m 0 f s (last f n o d))
 
   kept_found : (f n : ℕ) → Fault m f → marks' f ≡ Found n → First m more f n
   unfolding more
@@ -147,28 +146,28 @@ module _ {m : Machine} {evs : List Event} {es : List Entry} {marks marks' : ℕ 
   before : (g : ℕ) (k : Mark) → marks' g ≡ k → (k ≡ Undetectable → ⊥) → marks g ≡ k
   before g k p other = sym (elsewhere g (λ q. other (sym p ∙ ap marks' q ∙ here))) ∙ p
 
-  settled_never : (g : ℕ) → Fault m g → marks' g ≡ Undetectable → SomeOf (JudgedWell g) (judged f v w (Ok Never) ∷ evs) × Equivalent m 0 g
+  settled_never : (g : ℕ) → Fault m g → marks' g ≡ Undetectable → SomeOf (JudgedWell g) (judged f v w (Ok None) ∷ evs) × Equivalent m 0 g
   settled_never g is p = go (cases_eq g f)
     where
-      go : (g ≡ f) ⊎ (g ≡ f → ⊥) → SomeOf (JudgedWell g) (judged f v w (Ok Never) ∷ evs) × Equivalent m 0 g
+      go : (g ≡ f) ⊎ (g ≡ f → ⊥) → SomeOf (JudgedWell g) (judged f v w (Ok None) ∷ evs) × Equivalent m 0 g
       go (inl q) = (inl (sym q), subst (λ (x : ℕ). Equivalent m 0 x) (sym q) same)
       go (inr q) = let x = h.never g is (sym (elsewhere g q) ∙ p) in (inr x.0, x.1)
 
-  settled_settles : (g : ℕ) → Fault m g → Equivalent m 0 g → SomeOf (Judges m g) (calls (judged f v w (Ok Never) ∷ evs)) → marks' g ≡ Open → ⊥
-  settled_settles g is alike (inl j) p = open_undetectable (marks' g) p (ap marks' (sym j.0) ∙ here)
-  settled_settles g is alike (inr js) p = h.settles g is alike js (before g Open p (open_undetectable Open refl))
+  settled_settles : (g : ℕ) → Fault m g → Equivalent m 0 g → SomeOf (Judges m g) (calls (judged f v w (Ok None) ∷ evs)) → marks' g ≡ Open → ⊥
+  settled_settles g is alike (inl j) p = let u = ap marks' (sym j.0) ∙ here in cc
+  settled_settles g is alike (inr js) p = h.settles g is alike js (before g Open p (λ e. cc))
 
-  settled_worked : (g : ℕ) → SomeOf (JudgedWell g) (judged f v w (Ok Never) ∷ evs) → SomeOf (Judges m g) (calls (judged f v w (Ok Never) ∷ evs))
+  settled_worked : (g : ℕ) → SomeOf (JudgedWell g) (judged f v w (Ok None) ∷ evs) → SomeOf (Judges m g) (calls (judged f v w (Ok None) ∷ evs))
   settled_worked g (inl q) = inl (q, work)
   settled_worked g (inr ws) = inr (h.worked g ws)
 
-  pub one_settled : Holds m (judged f v w (Ok Never) ∷ evs) es marks'
+  pub one_settled : Holds m (judged f v w (Ok None) ∷ evs) es marks'
   one_settled = record {
     told = next h.told h.kept (fault, open_unsettled h f fault opened, work, same);
     kept = no_more h.kept (λ s origin c. equivalent_never m 0 f same s c.4.distinguishes);
     shortest = h.shortest;
-    open_none = λ g is p. h.open_none g is (before g Open p (open_undetectable Open refl));
-    found_first = λ g n is p. h.found_first g n is (before g (Found n) p (found_undetectable (Found n) n refl));
+    open_none = λ g is p. h.open_none g is (before g Open p (λ e. cc));
+    found_first = λ g n is p. h.found_first g n is (before g (Found n) p (λ e. cc));
     never = settled_never;
     settles = settled_settles;
     worked = settled_worked;

@@ -1,5 +1,5 @@
 -- What a ledger says: the marks of the faults, and the kept sequences with their origins.
-use Rattle.std.specs.Prelude.{ℕ, ◌+◌, ◌-◌, ◌<◌, ◌≤◌, List, [], ◌∷◌, map, length, take, drop, slice_index_or}
+use Rattle.std.specs.Prelude.{ℕ, ◌-◌, ◌<◌, ◌≤◌, List, [], map, length, take, drop, slice_index_or, sum_by}
 use Rattle.campaign.specs.declared.ledger.Kept.{Kept}
 use Rattle.campaign.specs.declared.ledger.Ledger.{Ledger}
 use Rattle.campaign.specs.declared.mark.Mark.{Mark}
@@ -33,13 +33,16 @@ numbered es n = slice_index_or es (n - 1) (entry [] 0)
 
 -- how many letters the kept sequences have together
 abbrev pub letters_in : List Entry → ℕ
-letters_in [] = 0
-letters_in (e ∷ es) = length e.letters + letters_in es
+letters_in es = sum_by (λ e. length e.letters) es
+
+-- the letters of a part
+abbrev pub part : ℕ → ℕ → List ℕ → List ℕ
+part start n letters = take n (drop start letters)
 
 -- the kept sequence that lies at these letters
 abbrev pub entry_of : List ℕ → Kept → Entry
-entry_of letters k = entry (take k.length (drop k.start letters)) k.origin
+entry_of letters k = entry (part k.start k.length letters) k.origin
 
 -- what a ledger says
 abbrev pub book : Ledger → Book
-book l = record { marks = l.marks; kept = map (entry_of l.letters) (take l.count l.kept) }
+book l = record { marks = l.marks; kept = map (entry_of l.letters) l.kept.items }

@@ -1,15 +1,13 @@
 -- Every history of calls is told truly.
-use Rattle.std.specs.Prelude.{◌≡◌, ℕ, ◌+◌, ◌<◌, ◌≤◌, true, ◌⊎◌, ◌↔◌, List, [], ◌∷◌, ◌++◌, map, length, Ok, Err, Result, ◌≢◌}
+use Rattle.std.specs.Prelude.{◌≡◌, ℕ, ◌+◌, ◌≤◌, true, ◌⊎◌, ◌↔◌, List, [], ◌∷◌, ◌++◌, map, length, Some, None, Ok, Err, Option, Result, ◌≢◌}
 use Rattle.machine.specs.Machines.{Machine}
 use Rattle.machine.specs.Outputs.{Distinguishes, Equivalent, LeastDistinguishing}
 use Rattle.machine.specs.Sequences.{legal}
 use Rattle.machine.specs.declared.refusal.Refusal.{Refusal}
-use Rattle.machine.specs.declared.refusal.Refusal.TheVariants.{NoSuchMember, WorkTooShort, FaultNotOpen, SequencesFull, LettersFull}
+use Rattle.machine.specs.declared.refusal.Refusal.TheVariants.{NoSuchMember, FaultNotOpen}
 use Rattle.compare.specs.Comparisons.{PairWork}
-use Rattle.campaign.specs.Books.{Entry, entry, Book, Numbered, numbered, letters_in}
-use Rattle.campaign.specs.Rules.{Fault, HasNumber, HasLetters, ShortWork, admission, Admitted, Judged, marked, ReadOut}
-use Rattle.campaign.specs.declared.judgement.Judgement.{Judgement}
-use Rattle.campaign.specs.declared.judgement.Judgement.TheVariants.{Undetectable as Never, Kept}
+use Rattle.campaign.specs.Books.{Entry, entry, Book, Numbered, numbered}
+use Rattle.campaign.specs.Rules.{Fault, HasNumber, HasLetters, KeepingRefused, admission, Admitted, Judged, marked, ReadOut}
 use Rattle.campaign.specs.declared.mark.Mark.{Mark}
 use Rattle.campaign.specs.declared.mark.Mark.TheVariants.{Open, Found, Undetectable}
 
@@ -22,7 +20,7 @@ pub data Call : Type 0 where
 
 -- a call with what it answered, and for a read-out what the buffer then held
 pub data Event : Type 0 where
-  judged : ℕ → ℕ → ℕ → Result Judgement Refusal → Event
+  judged : ℕ → ℕ → ℕ → Result (Option ℕ) Refusal → Event
   admitted : List ℕ → Result ℕ Refusal → Event
   marked_as : ℕ → Result Mark Refusal → Event
   was_read : ℕ → List ℕ → ℕ → Result (ℕ × ℕ) Refusal → List ℕ → Event
@@ -41,7 +39,7 @@ calls es = map call_of es
 -- a run: what calls lead to from a start, by what each call ensures; the latest stands first
 pub data Run (m : Machine) (start : Book) : List Event → Book → Type 0 where
   made : Run m start [] start
-  after_judge : {evs : List Event} {before after : Book} (f v w : ℕ) (r : Result Judgement Refusal) → Run m start evs before → Judged m before f v w r after → Run m start (judged f v w r ∷ evs) after
+  after_judge : {evs : List Event} {before after : Book} (f v w : ℕ) (r : Result (Option ℕ) Refusal) → Run m start evs before → Judged m before f v w r after → Run m start (judged f v w r ∷ evs) after
   after_admit : {evs : List Event} {before after : Book} (s : List ℕ) (r : Result ℕ Refusal) → Run m start evs before → Admitted m before s r after → Run m start (admitted s r ∷ evs) after
   after_mark : {evs : List Event} {before : Book} (f : ℕ) (r : Result Mark Refusal) → Run m start evs before → r ≡ marked m before f → Run m start (marked_as f r ∷ evs) before
   after_read : {evs : List Event} {before : Book} (n : ℕ) (old : List ℕ) (place : ℕ) (r : Result (ℕ × ℕ) Refusal) (new : List ℕ) → Run m start evs before → ReadOut before.kept n old place r new → Run m start (was_read n old place r new ∷ evs) before
@@ -85,7 +83,7 @@ KeptOnce m = (cs : List Call) (es fs : List Entry) → KeptBy m cs es → KeptBy
 
 -- the event is a judgement of fault f that was not refused
 abbrev pub JudgedWell : ℕ → Event → Type 0
-JudgedWell f (judged g v w (Ok j)) = g ≡ f
+JudgedWell f (judged g v w (Ok n)) = g ≡ f
 JudgedWell f (judged g v w (Err r)) = ⊥
 JudgedWell f (admitted s r) = ⊥
 JudgedWell f (marked_as g r) = ⊥
@@ -109,14 +107,12 @@ abbrev pub TrueRefusal : Machine → List Call → List Entry → ℕ → ℕ �
 TrueRefusal m cs es f v w r =
     ((r ≡ NoSuchMember) × (Fault m f → ⊥))
     ⊎ (Fault m f × (((r ≡ FaultNotOpen) × Settled m cs es f)
-    ⊎ ((Settled m cs es f → ⊥) × (((r ≡ WorkTooShort) × ShortWork m v w)
-    ⊎ (PairWork m v w × ((s : List ℕ) × LeastDistinguishing m 0 f s × (((r ≡ SequencesFull) × (256 ≤ length es))
-    ⊎ (HasNumber es × (r ≡ LettersFull) × (16384 < letters_in es + length s)))))))))
+    ⊎ ((Settled m cs es f → ⊥) × KeepingRefused m es f v w r)))
 
 -- what a judgement answers is true: undetectable where no sequence distinguishes the fault, the next number where the least sequence is kept
-abbrev pub TrueJudgement : Machine → List Call → List Entry → ℕ → ℕ → ℕ → Result Judgement Refusal → Type 0
-TrueJudgement m cs es f v w (Ok Never) = Fault m f × (Settled m cs es f → ⊥) × PairWork m v w × Equivalent m 0 f
-TrueJudgement m cs es f v w (Ok (Kept n)) = (n ≡ length es + 1) × ((s : List ℕ) × CallKeeps m cs es (judge f v w) s f)
+abbrev pub TrueJudgement : Machine → List Call → List Entry → ℕ → ℕ → ℕ → Result (Option ℕ) Refusal → Type 0
+TrueJudgement m cs es f v w (Ok None) = Fault m f × (Settled m cs es f → ⊥) × PairWork m v w × Equivalent m 0 f
+TrueJudgement m cs es f v w (Ok (Some n)) = (n ≡ length es + 1) × ((s : List ℕ) × CallKeeps m cs es (judge f v w) s f)
 TrueJudgement m cs es f v w (Err r) = TrueRefusal m cs es f v w r
 
 -- what was kept for a fault distinguishes it, and whatever does has at least as many letters

@@ -1,5 +1,5 @@
-pub mod Bounds
 pub mod Books
+pub mod Standings
 pub mod Rules
 pub mod Ledgers
 pub mod Histories

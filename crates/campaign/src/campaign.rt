@@ -1,63 +1,73 @@
 ghost use Rattle.std.specs.Prelude.{◌≡◌, length};
-ghost use Rattle.campaign.specs.Books.{book};
 ghost use Rattle.campaign.specs.Histories.{KeptOnce, Lawful};
 ghost use Rattle.campaign.specs.Rules.{Admitted, Fresh, Judged, ReadOut, marked};
 
-use super::judgement::Judgement;
-use super::judging::{admit_sequence, judge_fault};
+use super::judging::is_fault;
 use super::ledger::Ledger;
 use super::mark::Mark;
 use machine::{Device, Pair, Refusal};
 use search::Visit;
+use std::marker::Model;
 
 // A device with its fault list: where each fault stands, and the sequences that were kept.
 #[derive(Drop)]
 pub struct Campaign<D> {
-    pub(crate) device: D,
-    pub(crate) ledger: Ledger,
+    device: D,
+    ledger: Ledger,
+}
+
+// Clauses see the device and what the ledger says.
+impl<D> Model for Campaign<D> {
+    ghost use Rattle.campaign.specs.Standings.{Standing};
+
+    ghost Value = { Standing D };
+
+    ghost use Rattle.campaign.specs.Books.{book};
+
+    ghost view = { λ c. record { device = c.device; book = book c.ledger } };
 }
 
 impl<D: Device> Campaign<D> {
     // A campaign over a device: every fault is open and nothing is kept. Whatever calls follow, in any number and order, their history is told truly.
     pub fn make(device: D) -> Campaign<D>
         ensures device { result.device ≡ device }
-        ensures fresh { Fresh (book result.ledger) }
-        ensures lawful { Lawful (D.meaning device) (book result.ledger) }
+        ensures fresh { Fresh result.book }
+        ensures lawful { Lawful (D.meaning device) result.book }
         ensures once { KeptOnce (D.meaning device) }
     {
         Campaign {
             device,
-            ledger: Ledger::fresh(),
+            ledger: Ledger::new(),
         }
     }
 
-    // Judges an open fault: it is undetectable, or the least sequence that distinguishes it from the good machine is kept, with the fault as its origin.
+    // Judges an open fault: the least sequence that distinguishes it from the good machine is kept, with the fault as its origin, and its number is answered. None does where the fault is undetectable.
     // The work slices have an entry for each pair of states; what they hold does not matter and is lost.
     pub fn judge(
         &mut self,
         fault: u16,
         visits: &mut [Visit<Pair>],
         marks: &mut [u32],
-    ) -> Result<Judgement, Refusal>
-        ensures judged { Judged (D.meaning self.old.device) (book self.old.ledger) fault (length visits.old) (length marks.old) result (book self.new.ledger) }
+    ) -> Result<Option<u16>, Refusal>
+        ensures judged { Judged (D.meaning self.old.device) self.old.book fault (length visits.old) (length marks.old) result self.new.book }
         ensures device { self.new.device ≡ self.old.device }
     {
-        judge_fault(&self.device, &mut self.ledger, fault, visits, marks)
+        self.ledger.judge(&self.device, fault, visits, marks)
     }
 
-    // Keeps a client's sequence with origin 0: its number.
+    // Keeps a client's sequence with origin 0, the number of the good machine: the sequence's number.
     pub fn admit(&mut self, sequence: &[u8]) -> Result<u16, Refusal>
-        ensures admitted { Admitted (D.meaning self.old.device) (book self.old.ledger) sequence.now result (book self.new.ledger) }
+        ensures admitted { Admitted (D.meaning self.old.device) self.old.book sequence.now result self.new.book }
         ensures device { self.new.device ≡ self.old.device }
     {
-        admit_sequence(&self.device, &mut self.ledger, sequence)
+        self.ledger.admit(&self.device, sequence)
     }
 
     // Where a fault stands.
     pub fn mark(&self, fault: u16) -> Result<Mark, Refusal>
-        ensures { result ≡ marked (D.meaning self.now.device) (book self.now.ledger) fault }
+        ensures { result ≡ marked (D.meaning self.now.device) self.now.book fault }
     {
-        if fault == 0 || fault >= self.device.members() {
+        if !is_fault(&self.device, fault) {
             return Err(Refusal::NoSuchMember);
         }
         Ok(self.ledger.marks[fault as usize])
@@ -65,7 +75,7 @@ impl<D: Device> Campaign<D> {
 
     // Writes kept sequence n into the buffer from a place on, and nothing else: its length and origin.
     pub fn read_out(&self, n: u16, buffer: &mut [u8], place: usize) -> Result<(usize, u16), Refusal>
-        ensures { ReadOut (book self.now.ledger).kept n buffer.old place result buffer.new }
+        ensures { ReadOut self.now.book.kept n buffer.old place result buffer.new }
     {
         self.ledger.read_out(n, buffer, place)
     }

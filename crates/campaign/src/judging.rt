@@ -1,131 +1,119 @@
-ghost use Rattle.std.specs.Prelude.{◌≡◌, ◌+◌, ◌<◌, ◌≤◌, length};
-ghost use Rattle.campaign.specs.Books.{book};
-ghost use Rattle.campaign.specs.Ledgers.{LeastKept, SearchedInto, part};
-ghost use Rattle.campaign.specs.Rules.{Admitted, HasLetters, HasNumber, Judged, Keeps};
+ghost use Rattle.std.specs.Prelude.{◌≡◌, ◌+◌, ◌≤◌, ◌↔◌, IsTrue, length};
+ghost use Rattle.campaign.specs.Books.{book, part};
+ghost use Rattle.campaign.specs.Ledgers.{LeastKept, SearchedInto};
+ghost use Rattle.campaign.specs.Rules.{Admitted, Fault, HasLetters, HasNumber, Judged, Keeps};
 
-use super::grading::grade;
-use super::judgement::Judgement;
-use super::ledger::Ledger;
+use super::ledger::{Kept, LETTERS, Ledger};
 use super::mark::Mark;
-use super::storing::{LETTERS, SEQUENCES};
 use compare::{is_legal, search_pairs};
 use machine::{Device, Pair, Refusal};
-use search::{Found, Visit};
+use search::{Found, SearchError, Visit};
 
-// Keeps the next letters as a sequence, and grades every fault by it: its number.
-fn keep<D: Device>(device: &D, ledger: &mut Ledger, length: usize, origin: u16) -> u16
-    requires number { ledger.old.count < 256 }
-    requires room { ledger.old.used + length ≤ 16384 }
-    ensures number { result ≡ ledger.old.count + 1 }
-    ensures keeps { Keeps (D.meaning device.now) (book ledger.old) (part ledger.old.used length ledger.old.letters) origin (book ledger.new) }
+// Whether the device has a fault of this number.
+pub(crate) fn is_fault<D: Device>(device: &D, fault: u16) -> bool
+    ensures { IsTrue result ↔ Fault (D.meaning device.now) fault }
 {
-    let start = ledger.used;
-    let number = ledger.append(length, origin);
-    grade(device, ledger, start, start + length, number);
-    number
+    (1..device.members()).contains(&fault)
 }
 
-// Searches for the least sequence that distinguishes a fault, and writes it where the next kept sequence goes. There is no room for it once all numbers are given.
-fn search_into<D: Device>(
-    device: &D,
-    ledger: &mut Ledger,
-    fault: u16,
-    visits: &mut [Visit<Pair>],
-    marks: &mut [u32],
-) -> Found
-    ensures { SearchedInto (D.meaning device.now) ledger.old fault (length visits.old) (length marks.old) result ledger.new }
-{
-    let start = if ledger.count < SEQUENCES {
-        ledger.used
-    } else {
-        LETTERS
-    };
-    search_pairs(
-        device,
-        0,
-        fault,
-        visits,
-        marks,
-        &mut ledger.letters[start..],
-    )
-}
+impl Ledger {
+    // Keeps the next letters as a sequence, and grades every fault by it: its number.
+    fn keep<D: Device>(&mut self, device: &D, size: usize, origin: u16) -> u16
+        requires number { HasNumber (book self.old).kept }
+        requires room { self.old.used + size ≤ LETTERS }
+        ensures number { result ≡ length (book self.old).kept + 1 }
+        ensures keeps { Keeps (D.meaning device.now) (book self.old) (part self.old.used size self.old.letters) origin (book self.new) }
+    {
+        let next = Kept {
+            start: self.used,
+            length: size,
+            origin,
+        };
+        let number = self.append(next);
+        self.grade(device, next, number);
+        number
+    }
 
-// Keeps the least sequence that distinguishes a fault, if there is one and it fits: its number.
-fn keep_least<D: Device>(
-    device: &D,
-    ledger: &mut Ledger,
-    fault: u16,
-    visits: &mut [Visit<Pair>],
-    marks: &mut [u32],
-) -> Result<Option<u16>, Refusal>
-    ensures { LeastKept (D.meaning device.now) (book ledger.old) fault (length visits.old) (length marks.old) result (book ledger.new) }
-{
-    match search_into(device, ledger, fault, visits, marks) {
-        Found::Goal { length } => Ok(Some(keep(device, ledger, length, fault))),
-        Found::Exhausted { count: _ } => Ok(None),
-        Found::WorkTooShort => Err(Refusal::WorkTooShort),
-        Found::AnswerTooShort => {
-            if ledger.is_full() {
-                Err(Refusal::SequencesFull)
-            } else {
-                Err(Refusal::LettersFull)
-            }
+    // Searches for the least sequence that distinguishes a fault, and writes it where the next kept sequence goes.
+    fn search<D: Device>(
+        &mut self,
+        device: &D,
+        fault: u16,
+        visits: &mut [Visit<Pair>],
+        marks: &mut [u32],
+    ) -> Result<Found, SearchError>
+        ensures { SearchedInto (D.meaning device.now) self.old fault (length visits.old) (length marks.old) result self.new }
+    {
+        let start = self.next_place();
+        search_pairs(device, 0, fault, visits, marks, &mut self.letters[start..])
+    }
+
+    // Keeps the least sequence that distinguishes a fault, if there is one and it fits: its number.
+    fn keep_least<D: Device>(
+        &mut self,
+        device: &D,
+        fault: u16,
+        visits: &mut [Visit<Pair>],
+        marks: &mut [u32],
+    ) -> Result<Option<u16>, Refusal>
+        ensures { LeastKept (D.meaning device.now) (book self.old) fault (length visits.old) (length marks.old) result (book self.new) }
+    {
+        match self.search(device, fault, visits, marks) {
+            Ok(Found::Goal { length }) => Ok(Some(self.keep(device, length, fault))),
+            Ok(Found::Exhausted { .. }) => Ok(None),
+            Err(SearchError::WorkTooShort) => Err(Refusal::WorkTooShort),
+            Err(SearchError::AnswerTooShort) if self.is_full() => Err(Refusal::SequencesFull),
+            Err(SearchError::AnswerTooShort) => Err(Refusal::LettersFull),
         }
     }
-}
 
-// Judges an open fault: undetectable, or the least sequence that distinguishes it is kept.
-pub(crate) fn judge_fault<D: Device>(
-    device: &D,
-    ledger: &mut Ledger,
-    fault: u16,
-    visits: &mut [Visit<Pair>],
-    marks: &mut [u32],
-) -> Result<Judgement, Refusal>
-    ensures { Judged (D.meaning device.now) (book ledger.old) fault (length visits.old) (length marks.old) result (book ledger.new) }
-{
-    if fault == 0 || fault >= device.members() {
-        return Err(Refusal::NoSuchMember);
-    }
-    let Mark::Open = ledger.marks[fault as usize] else {
-        return Err(Refusal::FaultNotOpen);
-    };
-    match keep_least(device, ledger, fault, visits, marks)? {
-        Some(number) => Ok(Judgement::Kept { number }),
-        None => {
-            ledger.set_mark(fault, Mark::Undetectable);
-            Ok(Judgement::Undetectable)
+    // Judges an open fault: the least sequence that distinguishes it is kept, or it is undetectable.
+    pub(crate) fn judge<D: Device>(
+        &mut self,
+        device: &D,
+        fault: u16,
+        visits: &mut [Visit<Pair>],
+        marks: &mut [u32],
+    ) -> Result<Option<u16>, Refusal>
+        ensures { Judged (D.meaning device.now) (book self.old) fault (length visits.old) (length marks.old) result (book self.new) }
+    {
+        if !is_fault(device, fault) {
+            return Err(Refusal::NoSuchMember);
         }
+        let Mark::Open = self.marks[fault as usize] else {
+            return Err(Refusal::FaultNotOpen);
+        };
+        let number = self.keep_least(device, fault, visits, marks)?;
+        if number.is_none() {
+            self.set_mark(fault, Mark::Undetectable);
+        }
+        Ok(number)
     }
-}
 
-// Keeps a sequence that fits, with origin 0: its number.
-fn keep_client<D: Device>(device: &D, ledger: &mut Ledger, sequence: &[u8]) -> u16
-    requires number { HasNumber (book ledger.old).kept }
-    requires room { HasLetters (book ledger.old).kept sequence.now }
-    ensures number { result ≡ length (book ledger.old).kept + 1 }
-    ensures keeps { Keeps (D.meaning device.now) (book ledger.old) sequence.now 0 (book ledger.new) }
-{
-    ledger.write(sequence);
-    keep(device, ledger, sequence.len(), 0)
-}
+    // Keeps a sequence that fits, with origin 0: its number.
+    fn keep_client<D: Device>(&mut self, device: &D, sequence: &[u8]) -> u16
+        requires number { HasNumber (book self.old).kept }
+        requires room { HasLetters (book self.old).kept sequence.now }
+        ensures number { result ≡ length (book self.old).kept + 1 }
+        ensures keeps { Keeps (D.meaning device.now) (book self.old) sequence.now 0 (book self.new) }
+    {
+        self.write(sequence);
+        self.keep(device, sequence.len(), 0)
+    }
 
-// Keeps a client's sequence, where it is legal and fits.
-pub(crate) fn admit_sequence<D: Device>(
-    device: &D,
-    ledger: &mut Ledger,
-    sequence: &[u8],
-) -> Result<u16, Refusal>
-    ensures { Admitted (D.meaning device.now) (book ledger.old) sequence.now result (book ledger.new) }
-{
-    if !is_legal(device, sequence) {
-        return Err(Refusal::BadSequence);
+    // Keeps a client's sequence, where it is legal and fits: its number.
+    pub(crate) fn admit<D: Device>(&mut self, device: &D, sequence: &[u8]) -> Result<u16, Refusal>
+        ensures { Admitted (D.meaning device.now) (book self.old) sequence.now result (book self.new) }
+    {
+        if !is_legal(device, sequence) {
+            return Err(Refusal::BadSequence);
+        }
+        if self.is_full() {
+            return Err(Refusal::SequencesFull);
+        }
+        if !self.has_letters(sequence.len()) {
+            return Err(Refusal::LettersFull);
+        }
+        Ok(self.keep_client(device, sequence))
     }
-    if ledger.is_full() {
-        return Err(Refusal::SequencesFull);
-    }
-    if !ledger.has_letters(sequence.len()) {
-        return Err(Refusal::LettersFull);
-    }
-    Ok(keep_client(device, ledger, sequence))
 }

@@ -4,12 +4,9 @@
 mod asking;
 mod campaign;
 mod grading;
-mod judgement;
 mod judging;
 mod ledger;
 mod mark;
-mod storing;
 
 pub use campaign::Campaign;
-pub use judgement::Judgement;
 pub use mark::Mark;
