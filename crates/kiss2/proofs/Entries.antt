@@ -1,6 +1,8 @@
 -- The numbers of names, and the list of names with one more.
 use Rattle.std.proofs.Common.{◌≡◌, ℕ, zero, suc, ◌+◌, ◌<◌, ◌≤◌, Bool, true, false, cond, ltb, ◌⊎◌, List, [], ◌∷◌, ◌++◌, length, sym, refl, ap, ◌∙◌, inl, inr, one-add, arith}
+use Rattle.std.specs.List.{position_or_len}
 use Rattle.std.specs.Str.{bytes_eq}
+use Rattle.std.proofs.lemmas.List.Recursion.{is_position_or_len}
 use Rattle.std.proofs.lemmas.Slice.Eq.{bytes_eq-Decides}
 use Rattle.std.proofs.lemmas.List.{length_push, get_or_push, get_or_append_left}
 use Rattle.std.proofs.lemmas.Bool.{both_ways, cases_lt, ltb-true, ltb-false}
@@ -12,6 +14,10 @@ use Rattle.kiss2.specs.declared.part.Part.{Part}
 -- no two entries have the same name
 abbrev pub Apart : List ℕ → List Part → Type 0
 Apart text ps = (q p : ℕ) → q < length ps → p < length ps → bytes_of text (entry_at ps q) ≡ bytes_of text (entry_at ps p) → q ≡ p
+
+-- the number of a name is the first place of an entry that has it
+pub number_is : (text : List ℕ) (name : List ℕ) (ps : List Part) → number_of text ps name ≡ position_or_len (λ p. bytes_eq (bytes_of text p) name) ps
+number_is text name = is_position_or_len (λ qs. number_of text qs name) (λ p. bytes_eq (bytes_of text p) name) refl (λ x qs. refl)
 
 -- the number of a name is at most the count of names
 pub number_upto : (text : List ℕ) (ps : List Part) (name : List ℕ) → number_of text ps name ≤ length ps

@@ -1,3 +1,4 @@
+pub mod Alls
 pub mod Fronts
 pub mod Scans
 pub mod Lining

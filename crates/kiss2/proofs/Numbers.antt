@@ -1,26 +1,23 @@
 -- The number of a name, found by going through the entries.
-use Rattle.std.proofs.Common.{◌≡◌, ℕ, suc, ◌+◌, ◌<◌, ◌≤◌, true, false, List, [], ◌∷◌, ◌++◌, length, get_or, take, drop, set, sym, ap, ◌∙◌, arith}
-use Rattle.std.specs.Str.{bytes_eq}
-use Rattle.std.proofs.lemmas.List.{at_drop_more, at_drop_all, length_push, length-take-le, take-append-drop, set_split, append_assoc}
-use Rattle.std.proofs.lemmas.Bool.{cond-true, cond-false, lt-ltb, le-ltb}
+use Rattle.std.proofs.Common.{◌≡◌, ℕ, suc, ◌+◌, ◌<◌, ◌≤◌, Bool, true, false, cond, ltb, Some, None, List, [], ◌∷◌, ◌++◌, length, take, drop, set, refl, sym, ap, ◌∙◌, arith}
+use Rattle.std.proofs.lemmas.List.{length_push, length-take-le, take-append-drop, set_split, append_assoc}
+use Rattle.std.proofs.lemmas.Bool.{cond-true, cond-false, lt-ltb, le-ltb, ltb-false}
 use Rattle.machine.specs.Slices.{FirstEntries}
-use Rattle.kiss2.specs.Rows.{named, number_of}
+use Rattle.kiss2.specs.Rows.{named, number_among, number_of}
+use Rattle.kiss2.proofs.Entries.{number_upto}
 use Rattle.kiss2.specs.Texts.{bytes_of}
 use Rattle.kiss2.specs.declared.part.Part.{Part}
 
-module _ (text : List ℕ) (ps : List Part) (name : List ℕ) (i : ℕ) (left : i + number_of text (drop i ps) name ≡ number_of text ps name) where
-  pub number_stops : (d : Part) → i < length ps → bytes_eq (bytes_of text (get_or ps i d)) name ≡ true → i ≡ number_of text ps name
-  number_stops d h e =
-      let here : number_of text (drop i ps) name ≡ 0 = at_drop_more (λ (qs : List Part). number_of text qs name) ps i d h ∙ cond-true _ _ _ e in
-      omega (arith, left, here)
+-- a name that is not among some names would be numbered behind them
+pub number_new : (text : List ℕ) (ps : List Part) (name : List ℕ) → number_among text ps name ≡ None → number_of text ps name ≡ length ps
+number_new text ps name e = go (ltb n (length ps)) refl e
+  where
+    n : ℕ
+    n = number_of text ps name
 
-  pub number_more : (d : Part) → i < length ps → bytes_eq (bytes_of text (get_or ps i d)) name ≡ false → (i + 1) + number_of text (drop (i + 1) ps) name ≡ number_of text ps name
-  number_more d h e =
-      let here : number_of text (drop i ps) name ≡ 1 + number_of text (drop (i + 1) ps) name = at_drop_more (λ (qs : List Part). number_of text qs name) ps i d h ∙ cond-false _ _ _ e in
-      omega (arith, left, here)
-
-  pub number_new : length ps ≤ i → i ≤ length ps → length ps ≡ number_of text ps name
-  number_new h k = omega (arith, left, at_drop_all (λ (qs : List Part). number_of text qs name) ps i h)
+    go : (t : Bool) → ltb n (length ps) ≡ t → cond t (Some n) None ≡ None → n ≡ length ps
+    go true f g = absurd (let z : ◌≡◌ {A = ℕ} 0 1 = cc in omega arith)
+    go false f g = omega (arith, ltb-false n (length ps) f, number_upto text ps name)
 
 -- a known name adds no state
 pub named_known : (text : List ℕ) (ps : List Part) (p : Part) → number_of text ps (bytes_of text p) < length ps → named text ps p ≡ ps

@@ -1,5 +1,5 @@
 -- What a reader holds of the lines that it has seen.
-use Rattle.std.specs.Prelude.{◌≡◌, ℕ, ◌+◌, ◌*◌, ◌^◌, ◌<◌, ◌≤◌, false, cond, ◌⊎◌, List, length, is_some, Some, None, Ok, Err, Option, Result, nat_lt, slice_index_or}
+use Rattle.std.specs.Prelude.{◌≡◌, ℕ, ◌+◌, ◌*◌, ◌^◌, ◌<◌, ◌≤◌, false, ◌⊎◌, List, length, is_some, Some, None, Ok, Err, Option, Result, slice_index_or}
 use Rattle.std.specs.Option.{unwrap_or}
 use Rattle.std.specs.List.{AllByRecursion}
 use Rattle.machine.specs.Slices.{FirstEntries}
@@ -9,7 +9,7 @@ use Rattle.devices.specs.Cells.{no_cell}
 use Rattle.devices.specs.declared.cell.Cell.{Cell}
 use Rattle.kiss2.specs.Placing.{Table, put_all}
 use Rattle.kiss2.specs.Readings.{Seen, names_with, nothing_seen, take_lines}
-use Rattle.kiss2.specs.Rows.{Transition, cell_given, given_at, named, number_of, places}
+use Rattle.kiss2.specs.Rows.{Transition, cell_given, given_at, named, number_among, number_of, places}
 use Rattle.kiss2.specs.Seeing.{Sound}
 use Rattle.kiss2.specs.Texts.{bytes_of, lines}
 use Rattle.kiss2.specs.declared.part.Part.{Part}
@@ -64,4 +64,4 @@ LinesRead text old_cells old_names (Err e) names t = take_lines text 1 nothing_s
 -- the number of the reset state among the states: the first where none is named, and none where the name is not among them
 abbrev pub reset_state : List ℕ → List Part → Option Part → Option ℕ
 reset_state text ps None = Some 0
-reset_state text ps (Some p) = cond (nat_lt (number_of text ps (bytes_of text p)) (length ps)) (Some (number_of text ps (bytes_of text p))) None
+reset_state text ps (Some p) = number_among text ps (bytes_of text p)

@@ -1,5 +1,5 @@
 -- What the rows of a text say: digits, the numbers of states, and cells.
-use Rattle.std.specs.Prelude.{ℕ, ◌+◌, ◌*◌, Bool, true, false, cond, ◌&&◌, ◌||◌, List, [], ◌∷◌, ◌++◌, length, is_some, Some, None, fold, Option, ◌==◌, nat_lt}
+use Rattle.std.specs.Prelude.{ℕ, ◌+◌, ◌*◌, Bool, true, false, cond, ◌&&◌, ◌||◌, List, [], ◌∷◌, ◌++◌, length, is_some, Some, None, fold, Option, if◌then◌else◌, ◌==◌, nat_lt}
 use Rattle.std.specs.Option.{unwrap_or}
 use Rattle.std.specs.Str.{bytes_eq}
 use Rattle.machine.specs.Lists.{all}
@@ -27,6 +27,10 @@ output_word ds = fold (λ n d. n * 2 + cond (d == 49) 1 0) 0 ds
 abbrev pub number_of : List ℕ → List Part → List ℕ → ℕ
 number_of text [] name = 0
 number_of text (p ∷ ps) name = cond (bytes_eq (bytes_of text p) name) 0 (1 + number_of text ps name)
+
+-- the number of a name, where it is among the states named so far
+abbrev pub number_among : List ℕ → List Part → List ℕ → Option ℕ
+number_among text ps name = if nat_lt (number_of text ps name) (length ps) then Some (number_of text ps name) else None
 
 -- the states named so far, with one more where its name is new
 abbrev pub named : List ℕ → List Part → Part → List Part

@@ -1,7 +1,6 @@
 ghost use Rattle.std.specs.Prelude.{◌≡◌};
-ghost use Rattle.kiss2.specs.Sides.{TellsName, lies_in, side_of};
+ghost use Rattle.kiss2.specs.Sides.{TellsName, side_of};
 
-use crate::names::cut;
 use crate::part::Part;
 use crate::side::Side;
 use machine::Refusal;
@@ -14,13 +13,6 @@ fn side_of<'n, 'g: 'n, 'f: 'n, T>(good: &'g [T], faulty: &'f [T], side: Side) ->
         Side::Good => good,
         Side::Faulty => faulty,
     }
-}
-
-// Whether the part lies in the text.
-fn lies_in(text: &[u8], part: Part) -> bool
-    ensures { result ≡ lies_in text.now part }
-{
-    part.place as usize + part.length as usize <= text.len()
 }
 
 // The name of a state, as a part of the good or the faulty text, by the name entries of its side.
@@ -36,13 +28,9 @@ pub fn name<'n, 'g: 'n, 'f: 'n>(
 {
     let text = side_of(good, faulty, side);
     let names = side_of(good_names, faulty_names, side);
-    let state = state as usize;
-    if state >= names.len() {
+    let part = *names.get(state as usize).ok_or(Refusal::OutOfRange)?;
+    if !part.lies_in(text) {
         return Err(Refusal::OutOfRange);
     }
-    let part = names[state];
-    if !lies_in(text, part) {
-        return Err(Refusal::OutOfRange);
-    }
-    Ok(cut(text, part))
+    Ok(part.bytes_in(text))
 }

@@ -1,13 +1,11 @@
-ghost use Rattle.std.specs.Prelude.{◌≡◌, ℕ, ◌+◌, ◌*◌, ◌^◌, ◌<◌, ◌≤◌, false, length, take, replicate};
+ghost use Rattle.std.specs.Prelude.{◌≡◌, ◌+◌, ◌^◌, ◌<◌, ◌≤◌, false, length, take, replicate, Some, None, OnOk, IfErr};
 ghost use Rattle.std.specs.Option.{unwrap_or};
 ghost use Rattle.machine.specs.Lists.{all};
 ghost use Rattle.kiss2.specs.Concluding.{Read, shape_held};
-ghost use Rattle.kiss2.specs.Laws.{Inside, entry_at};
 ghost use Rattle.kiss2.specs.Lines.{LineStands, RowStands, line_of, line_said};
 ghost use Rattle.kiss2.specs.Placing.{table};
 ghost use Rattle.kiss2.specs.Progressing.{BothEnlisted, Gave, Held, LinesRead, Stepped, reset_state};
-ghost use Rattle.kiss2.specs.Readings.{miscounted, refused, take_line, take_row, take_said};
-ghost use Rattle.kiss2.specs.Seeing.{NameInside};
+ghost use Rattle.kiss2.specs.Readings.{miscounted, take_line, take_row, take_said};
 ghost use Rattle.kiss2.specs.Rows.{row_refusal};
 ghost use Rattle.kiss2.specs.Texts.{Stands, part_of, words_left};
 
@@ -15,7 +13,7 @@ use crate::digits::{has_width, output_word};
 use crate::directives::short_name;
 use crate::heading::Heading;
 use crate::line::{Line, Row, parse_line};
-use crate::names::{cut, number_of, number_state};
+use crate::names::{STATES, number_of, number_state};
 use crate::part::{Part, Word};
 use crate::placing::place_row;
 use crate::progress::Progress;
@@ -31,30 +29,21 @@ const TEXT: usize = 16384;
 // As many cells as a table may have.
 const CELLS: usize = 16384;
 
-// As many states as a table may have.
-const STATES: usize = 256;
-
-// A refusal with which no line is at fault.
-fn whole_text(refusal: Refusal) -> Refused
-    ensures { result ≡ refused refusal 0 }
-{
-    Refused { refusal, line: 0 }
-}
-
-// Why a row is refused by itself, if it is.
-fn row_refusal(heading: &Heading, row: Row) -> Option<Refusal>
-    ensures { result ≡ row_refusal heading.now row.entry.input.bytes.now row.entry.current.bytes.now row.entry.next.bytes.now row.entry.output.bytes.now }
+// Refuses a row that breaks a rule by itself.
+fn check_row(heading: &Heading, row: Row) -> Result<(), Refusal>
+    ensures fits { OnOk result (row_refusal heading.now row.entry.input.bytes.now row.entry.current.bytes.now row.entry.next.bytes.now row.entry.output.bytes.now ≡ None) }
+    ensures refused { IfErr result (λ r. row_refusal heading.now row.entry.input.bytes.now row.entry.current.bytes.now row.entry.next.bytes.now row.entry.output.bytes.now ≡ Some r) }
 {
     let (Some(inputs), Some(outputs)) = (heading.inputs, heading.outputs) else {
-        return Some(Refusal::RowBeforeWidths);
+        return Err(Refusal::RowBeforeWidths);
     };
     if !has_width(row.input.bytes, inputs) || !has_width(row.output.bytes, outputs) {
-        return Some(Refusal::BadDigits);
+        return Err(Refusal::BadDigits);
     }
     if !short_name(row.current.bytes) || !short_name(row.next.bytes) {
-        return Some(Refusal::BadName);
+        return Err(Refusal::BadName);
     }
-    None
+    Ok(())
 }
 
 // The numbers of the states that two words name, the first before the second.
@@ -67,7 +56,6 @@ fn number_states(
 ) -> Result<(u16, u16), Refusal>
     requires few { states.old ≤ 256 }
     requires room { 256 ≤ length names.old }
-    requires inside { (q : ℕ) → q < states.old → Inside text.now (entry_at (take states.old names.old) q) }
     requires first { Stands text.now first }
     requires second { Stands text.now second }
     requires short { length text.now < 2 ^ 16 }
@@ -124,9 +112,7 @@ fn take_row(
     ensures taken { Stepped text.now (λ s. take_row text.now line s (part_of row.entry.input) (part_of row.entry.current) (part_of row.entry.next) (part_of row.entry.output)) progress.old names.old (table cells.old given.old) result progress.new names.new (table cells.new given.new) }
     ensures more { progress.new.rows ≤ progress.old.rows + 1 }
 {
-    if let Some(refusal) = row_refusal(&progress.heading, row) {
-        return Err(refusal);
-    }
+    check_row(&progress.heading, row)?;
     let (first, second) = row.states();
     let (current, next) = number_states(text, names, &mut progress.states, first, second)?;
     let cell = Cell {
@@ -285,28 +271,16 @@ fn read_lines(
 fn miscounted(stated: Option<u32>, found: usize) -> bool
     ensures { result ≡ miscounted stated found }
 {
-    match stated {
-        Some(count) => count as usize != found,
-        None => false,
-    }
+    stated.is_some_and(|count| count as usize != found)
 }
 
 // The number of the reset state among the states: the first where none is named, and none where the name is not among them.
 fn reset_state(text: &[u8], names: &[Part], reset: Option<Part>) -> Option<usize>
-    requires names { (q : ℕ) → q < length names.now → Inside text.now (entry_at names.now q) }
-    requires reset { NameInside text.now reset }
     ensures { result ≡ reset_state text.now names.now reset }
 {
     match reset {
         None => Some(0),
-        Some(part) => {
-            let number = number_of(text, names, cut(text, part));
-            if number < names.len() {
-                Some(number)
-            } else {
-                None
-            }
-        }
+        Some(part) => number_of(text, names, part.bytes_in(text)),
     }
 }
 
@@ -314,21 +288,7 @@ fn reset_state(text: &[u8], names: &[Part], reset: Option<Part>) -> Option<usize
 fn all_given(given: &[bool]) -> bool
     ensures { result ≡ all (λ b. b) given.now }
 {
-    for cell in given {
-        if !*cell {
-            return false;
-        }
-    }
-    true
-}
-
-// How many cells a table has.
-fn cell_count(states: u16, inputs: u8) -> usize
-    requires { (states ≤ 256) × (inputs ≤ 6) }
-    ensures value { result ≡ states * 2 ^ inputs }
-    ensures bound { result ≤ 16384 }
-{
-    (states as usize) << inputs
+    given.iter().all(|given| *given)
 }
 
 // The shape of the table once all lines are read, over a slice of `room` cells.
@@ -343,22 +303,24 @@ fn conclude(
     requires names { 256 ≤ length names.now }
     requires width { unwrap_or progress.now.heading.inputs 0 ≤ 6 }
     requires given { length given.now ≡ 16384 }
-    requires inside { (q : ℕ) → q < progress.now.states → Inside text.now (entry_at (take progress.now.states names.now) q) }
-    requires reset { NameInside text.now progress.now.heading.reset }
     ensures { result ≡ shape_held text.now progress.now names.now room given.now }
 {
     let heading = progress.heading;
     let states = progress.states as usize;
     if miscounted(heading.rows, progress.rows) || miscounted(heading.states, states) {
-        return Err(whole_text(Refusal::CountMismatch));
+        return Err(Refusal::CountMismatch.into());
     }
-    let Some(reset) = reset_state(text, &names[0..states], heading.reset) else {
-        return Err(whole_text(Refusal::CountMismatch));
+    let reset = reset_state(text, &names[..states], heading.reset).ok_or(Refusal::CountMismatch)?;
+    let shape = Shape {
+        inputs: heading.inputs.unwrap_or(0),
+        outputs: heading.outputs.unwrap_or(0),
+        rows: progress.rows,
+        states: progress.states,
+        reset: reset as u16,
     };
-    let inputs = heading.inputs.unwrap_or(0);
-    let cells = cell_count(progress.states, inputs);
+    let cells = shape.cell_count();
     if room < cells {
-        return Err(whole_text(Refusal::WorkTooShort));
+        return Err(Refusal::WorkTooShort.into());
     }
     if let Some(line) = progress.clash {
         return Err(Refused {
@@ -366,16 +328,10 @@ fn conclude(
             line,
         });
     }
-    if progress.rows == 0 || !all_given(&given[0..cells]) {
-        return Err(whole_text(Refusal::CellNotGiven));
+    if progress.rows == 0 || !all_given(&given[..cells]) {
+        return Err(Refusal::CellNotGiven.into());
     }
-    Ok(Shape {
-        inputs,
-        outputs: heading.outputs.unwrap_or(0),
-        rows: progress.rows,
-        states: progress.states,
-        reset: reset as u16,
-    })
+    Ok(shape)
 }
 
 // Reads a state table: its cells and the names of its states go into the first entries of the slices.
@@ -384,10 +340,10 @@ pub fn read(text: &[u8], cells: &mut [Cell], names: &mut [Part]) -> Result<Shape
     ensures { Read text.now cells.old names.old result cells.new names.new }
 {
     if names.len() < STATES {
-        return Err(whole_text(Refusal::WorkTooShort));
+        return Err(Refusal::WorkTooShort.into());
     }
     if text.len() > TEXT {
-        return Err(whole_text(Refusal::TextTooLong));
+        return Err(Refusal::TextTooLong.into());
     }
     let mut given = [false; CELLS];
     let progress = read_lines(text, names, cells, &mut given)?;

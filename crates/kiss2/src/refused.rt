@@ -1,8 +1,32 @@
+ghost use Rattle.std.specs.Prelude.{◌≡◌};
+ghost use Rattle.kiss2.specs.Readings.{refused};
+
 use machine::Refusal;
+use std::error::Error;
+use std::fmt;
 
 // Why a text was refused, and at which line, counted from 1; 0 where no line is at fault.
-#[derive(Clone, Copy)]
+#[derive(Clone, Copy, PartialEq, Eq, Debug)]
 pub struct Refused {
     pub refusal: Refusal,
     pub line: usize,
 }
+
+// A refusal with which no line is at fault.
+impl From<Refusal> for Refused {
+    ghost from_gives = { λ refusal result. result ≡ refused refusal 0 };
+
+    fn from(refusal: Refusal) -> Refused {
+        Refused { refusal, line: 0 }
+    }
+}
+
+impl fmt::Display for Refused {
+    fn fmt<W: fmt::Write>(&self, f: &mut fmt::Formatter<W>) -> fmt::Result {
+        let number = self.refusal.number();
+        let line = self.line;
+        write!(f, "refused {number} at line {line}")
+    }
+}
+
+impl Error for Refused {}

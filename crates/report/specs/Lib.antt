@@ -1,5 +1,6 @@
 pub mod Writing
 pub mod Outcomes
 pub mod Names
+pub mod Told
 pub mod Reports
 pub mod Sources

@@ -1,23 +1,23 @@
 -- What a report tells, and how it is spelled.
-use Rattle.std.specs.Prelude.{ℕ, List, [], ◌∷◌, ◌++◌, length, codes, decimal}
+use Rattle.std.specs.Prelude.{ℕ, List, [], ◌∷◌, ◌++◌, length, codes, decimal, Some, None, Option}
 use Rattle.std.specs.List.{flat_map}
 use Rattle.machine.specs.Refusals.{refusal_number}
 use Rattle.machine.specs.declared.refusal.Refusal.{Refusal}
 use Rattle.kiss2.specs.Laws.{binary}
-use Rattle.report.specs.declared.whom.Whom.{Whom}
-use Rattle.report.specs.declared.whom.Whom.TheVariants.{Good, Faulty, Both}
+use Rattle.kiss2.specs.declared.side.Side.{Side}
+use Rattle.kiss2.specs.declared.side.Side.TheVariants.{Good, Faulty}
 
 -- a refusal of a text at a line; the letters of a least distinguishing sequence, with their width in bits; the names of the states of each reachable pair
 pub data Outcome : Type 0 where
-  refused : Refusal → Whom → ℕ → Outcome
+  refused : Refusal → Option Side → ℕ → Outcome
   differ : ℕ → List ℕ → Outcome
   equivalent : List (List ℕ × List ℕ) → Outcome
 
 -- the word for a text, or for both
-abbrev pub whom_word : Whom → List ℕ
-whom_word Good = codes "good"
-whom_word Faulty = codes "faulty"
-whom_word Both = codes "both"
+abbrev pub whom_word : Option Side → List ℕ
+whom_word (Some Good) = codes "good"
+whom_word (Some Faulty) = codes "faulty"
+whom_word None = codes "both"
 
 -- the end of a line
 abbrev pub line_end : List ℕ
@@ -36,7 +36,7 @@ abbrev pub count_line : List ℕ → ℕ → List ℕ
 count_line word n = word ++ (decimal n ++ line_end)
 
 -- the line of a refusal
-abbrev pub refusal_line : Refusal → Whom → ℕ → List ℕ
+abbrev pub refusal_line : Refusal → Option Side → ℕ → List ℕ
 refusal_line r w n = codes "refused " ++ (decimal (refusal_number r) ++ (codes " " ++ (whom_word w ++ count_line (codes " ") n)))
 
 -- the bytes that spell an outcome

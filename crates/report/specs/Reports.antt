@@ -1,5 +1,5 @@
 -- What a report says of two texts, and what the call leaves in its slice.
-use Rattle.std.specs.Prelude.{◌≡◌, ℕ, ◌*◌, ◌^◌, ◌<◌, ◌≤◌, Bool, true, false, ◌&&◌, ◌⊎◌, List, [], map, length, Ok, Err, Result, ◌==◌}
+use Rattle.std.specs.Prelude.{◌≡◌, ℕ, ◌*◌, ◌^◌, ◌<◌, ◌≤◌, Bool, true, false, ◌&&◌, ◌⊎◌, List, [], map, length, Some, None, Ok, Err, Result, ◌==◌}
 use Rattle.machine.specs.Machines.{Machine}
 use Rattle.machine.specs.Outputs.{Equivalent, LeastDistinguishing}
 use Rattle.machine.specs.Products.{ReachablePairs}
@@ -14,7 +14,7 @@ use Rattle.kiss2.specs.declared.refused.Refused.{Refused}
 use Rattle.kiss2.specs.declared.shape.Shape.{Shape}
 use Rattle.report.specs.Outcomes.{Outcome, differ, equivalent, refused, rendering}
 use Rattle.report.specs.Names.{name_of, pair_names}
-use Rattle.report.specs.declared.whom.Whom.TheVariants.{Good, Faulty, Both}
+use Rattle.kiss2.specs.declared.side.Side.TheVariants.{Good, Faulty}
 
 -- the machine of a text that was read
 abbrev pub text_machine : Reading → Machine
@@ -43,24 +43,24 @@ TooFew m v w = (v < m.states * m.states) ⊎ (w < m.states * m.states)
 -- the outcome of the comparison of two machines side by side over v visits and w mark words; `names` are those of a pair of states
 abbrev pub Compared : Machine → ℕ → (Pair → List ℕ × List ℕ) → ℕ → ℕ → Outcome → Type 0
 Compared m width names v w o =
-    ((o ≡ refused WorkTooShort Both 0) × TooFew m v w)
+    ((o ≡ refused WorkTooShort None 0) × TooFew m v w)
     ⊎ (Enough m v w × (((s : List ℕ) × (o ≡ differ width s) × LeastDistinguishing m 0 1 s)
     ⊎ ((ps : List Pair) × (o ≡ equivalent (map names ps)) × Equivalent m 0 1 × ReachablePairs m 0 1 ps)))
 
 -- the outcome of two texts that were read: their widths come first
 abbrev pub BothRead : List ℕ → List ℕ → Reading → Reading → ℕ → ℕ → Outcome → Type 0
 BothRead good faulty x y v w o =
-    ((o ≡ refused WidthsDiffer Both 0) × (same_widths x.shape y.shape ≡ false))
+    ((o ≡ refused WidthsDiffer None 0) × (same_widths x.shape y.shape ≡ false))
     ⊎ ((same_widths x.shape y.shape ≡ true) × Compared (both_machines x y) x.shape.inputs (names_of good faulty x y) v w o)
 
 -- the outcome by what the faulty text was read as
 abbrev pub FaultyRead : List ℕ → List ℕ → Reading → Result Reading Refused → ℕ → ℕ → Outcome → Type 0
-FaultyRead good faulty x (Err e) v w o = o ≡ refused e.refusal Faulty e.line
+FaultyRead good faulty x (Err e) v w o = o ≡ refused e.refusal (Some Faulty) e.line
 FaultyRead good faulty x (Ok y) v w o = BothRead good faulty x y v w o
 
 -- the outcome by what the good text was read as: it comes first
 abbrev pub GoodRead : List ℕ → List ℕ → Result Reading Refused → Result Reading Refused → ℕ → ℕ → Outcome → Type 0
-GoodRead good faulty (Err e) y v w o = o ≡ refused e.refusal Good e.line
+GoodRead good faulty (Err e) y v w o = o ≡ refused e.refusal (Some Good) e.line
 GoodRead good faulty (Ok x) y v w o = FaultyRead good faulty x y v w o
 
 -- the outcome of two texts, over slices of so many cells and name entries for each, v visits and w mark words

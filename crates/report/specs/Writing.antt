@@ -1,18 +1,16 @@
--- Text that is written into a slice from a place on.
-use Rattle.std.specs.Prelude.{◌≡◌, ℕ, ◌+◌, ◌^◌, ◌<◌, ◌≤◌, List, length}
+-- Text that is written into a slice piece behind piece.
+use Rattle.std.specs.Prelude.{◌≡◌, ℕ, ◌+◌, ◌-◌, ◌^◌, ◌≤◌, List, length, min}
 use Rattle.std.proofs.lemmas.List.Edits.{sets}
 use Rattle.machine.specs.Slices.{FirstEntries}
+use Rattle.report.specs.declared.writing.Writer.{Writer}
 
--- the text is written from a place on, as far as the slice reaches; the end is the place behind it
-pub record Written (text old : List ℕ) (at : ℕ) (new : List ℕ) (end : ℕ) : Type 0 where
-  pub place : end ≡ at + length text
-  pub bytes : new ≡ sets old at text
+-- the text is written behind what stood there, as far as the slice reaches, and all of it is counted, up to the largest word
+pub record Adds (text : List ℕ) (old new : Writer) : Type 0 where
+  pub counted : new.count ≡ min (old.count + length text) (2 ^ 64 - 1)
+  pub bytes : new.out.now ≡ sets old.out.now old.count text
+  pub same_slice : new.out.ghost_name ≡ old.out.ghost_name
 
--- the text has that many bytes, which stand in the first entries of the slice where they fit
+-- the text has that many bytes, or more than a word counts, and they stand in the first entries of the slice where they fit
 pub record Rendered (text old new : List ℕ) (count : ℕ) : Type 0 where
-  pub counted : length text ≡ count
+  pub counted : count ≡ min (length text) (2 ^ 64 - 1)
   pub first : length text ≤ length old → FirstEntries text old new
-
--- the text from a place on ends at a place that a word counts
-abbrev pub Countable : ℕ → List ℕ → Type 0
-Countable at text = at + length text < 2 ^ 32

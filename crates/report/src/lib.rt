@@ -1,11 +1,13 @@
 // The report over two state tables that are given as text.
 #![tactic(auto)]
 
+mod listing;
 mod names;
-mod rendering;
+mod outcome;
 mod reporting;
+mod sequence;
 mod source;
-mod whom;
+mod tables;
 mod writing;
 
 pub use reporting::report;

@@ -1,5 +1,5 @@
 ghost use Rattle.std.specs.Prelude.{◌≡◌};
-ghost use Rattle.report.specs.Names.{Named, named};
+ghost use Rattle.report.specs.Names.{named};
 
 use kiss2::Part;
 
@@ -11,14 +11,11 @@ pub(crate) struct Names<'a> {
 }
 
 impl<'a> Names<'a> {
-    // The name of a state.
+    // The name of a state; empty where there is no such state.
     pub(crate) fn of(self, state: u16) -> &'a [u8]
-        requires { Named self state }
         ensures { result.now ≡ named self.entry state }
     {
-        let entry = self.entries[state as usize];
-        let start = entry.place as usize;
-        let end = start + entry.length as usize;
-        &self.text[start..end]
+        let entry = self.entries.get(state as usize);
+        entry.copied().unwrap_or_default().bytes_in(self.text)
     }
 }

@@ -1,12 +1,12 @@
-ghost use Rattle.std.specs.Prelude.{◌≡◌, ◌*◌, ◌^◌, ◌≤◌};
+ghost use Rattle.std.specs.Prelude.{◌≡◌, Ok, Err, IfErr, IfOk, length};
 ghost use Rattle.kiss2.specs.Laws.{InRange};
+ghost use Rattle.kiss2.specs.Readings.{reading};
 ghost use Rattle.devices.specs.Tables.{machine_of};
 ghost use Rattle.report.specs.Reports.{text_machine};
-ghost use Rattle.report.specs.Sources.{front, held};
 
 use crate::names::Names;
 use devices::{Cell, Table};
-use kiss2::{Part, Shape};
+use kiss2::{Part, Refused, Shape, read};
 
 // A state table that was read from a text.
 #[derive(Clone, Copy)]
@@ -14,55 +14,41 @@ pub(crate) struct Source<'a> {
     pub(crate) names: Names<'a>,
     pub(crate) shape: Shape,
     pub(crate) cells: &'a [Cell],
-}
-
-// How many cells the table has.
-fn cell_count(shape: Shape) -> usize
-    requires { (shape.inputs ≤ 6) × (shape.states ≤ 256) }
-    ensures { result ≡ shape.states * 2 ^ shape.inputs }
-{
-    (shape.states as usize) << shape.inputs
+    ghost in_range: { InRange names.text.now (record { shape = shape; names = names.entries.now; cells = cells.now }) },
 }
 
 impl<'a> Source<'a> {
-    // The table of this shape in the first entries of the slices that it was read into.
-    pub(crate) fn new(
+    ghost use Rattle.report.specs.Sources.{held};
+
+    // Reads a text. The table stands in the first entries of the slices.
+    pub(crate) fn read(
         text: &'a [u8],
-        shape: Shape,
-        cells: &'a [Cell],
-        names: &'a [Part],
-    ) -> Source<'a>
-        requires { InRange text.now (front shape cells.now names.now) }
-        ensures text { result.names.text.now ≡ text.now }
-        ensures held { held result ≡ front shape cells.now names.now }
+        cells: &'a mut [Cell],
+        names: &'a mut [Part],
+    ) -> Result<Source<'a>, Refused>
+        ensures text { IfOk result (λ s. s.names.text.now ≡ text.now) }
+        ensures held { IfOk result (λ s. reading text.now (length names.old) (length cells.old) ≡ Ok (held s)) }
+        ensures refused { IfErr result (λ e. reading text.now (length names.old) (length cells.old) ≡ Err e) }
     {
-        let names = Names {
-            text,
-            entries: &names[0..shape.states as usize],
-        };
-        let cells = &cells[0..cell_count(shape)];
-        Source {
-            names,
+        let shape = read(text, cells, names)?;
+        let entries = &names[0..shape.states as usize];
+        let cells = &cells[0..shape.cell_count()];
+        Ok(Source {
+            names: Names { text, entries },
             shape,
             cells,
-        }
+        })
     }
 
     // The table as a device.
     pub(crate) fn table(self) -> Table<'a>
-        requires { InRange self.names.text.now (held self) }
         ensures { machine_of result ≡ text_machine (held self.entry) }
     {
         let mut table = Table::idle();
-        match table.take_in(
-            self.shape.inputs,
-            self.shape.states,
-            self.shape.reset,
-            self.cells,
-            &[],
-        ) {
-            Ok(()) => table,
-            Err(_) => unreachable(),
-        }
+        let shape = self.shape;
+        table
+            .take_in(shape.inputs, shape.states, shape.reset, self.cells, &[])
+            .unwrap();
+        table
     }
 }

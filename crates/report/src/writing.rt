@@ -1,54 +1,70 @@
-ghost use Rattle.std.specs.Prelude.{◌≤◌, [], ◌∷◌, decimal};
+ghost use Rattle.std.specs.Prelude.{◌≡◌, ◌^◌, ◌<◌, ◌≤◌, [], ◌∷◌, length, decimal};
 ghost use Rattle.kiss2.specs.Laws.{binary};
-ghost use Rattle.report.specs.Writing.{Countable, Written};
+ghost use Rattle.report.specs.Outcomes.{count_line};
 
-// Writes a byte at a place, if the slice has it: the next place.
-pub(crate) fn put_byte(report: &mut [u8], at: usize, byte: u8) -> usize
-    requires { Countable at (byte ∷ []) }
-    ensures { Written (byte ∷ []) report.old at report.new result }
-{
-    if at < report.len() {
-        report[at] = byte;
-    }
-    at + 1
+use itoa::Buffer;
+
+// Text that is written piece behind piece into the first bytes of a lent slice, as far as it reaches. What does not fit is counted too.
+#[derive(Drop)]
+pub(crate) struct Writer<'a> {
+    pub(crate) out: &'a mut [u8],
+    pub(crate) count: usize,
+    ghost addressable: { length out.now < 2 ^ 63 },
+    ghost in_a_word: { count < 2 ^ 64 },
 }
 
-// Writes bytes from a place on: the place behind them.
-pub(crate) fn put_bytes(report: &mut [u8], at: usize, bytes: &[u8]) -> usize
-    requires { Countable at bytes.now }
-    ensures { Written bytes.now report.old at report.new result }
-{
-    let mut end = at;
-    for byte in bytes {
-        end = put_byte(report, end, *byte);
-    }
-    end
-}
+impl<'a> Writer<'a> {
+    ghost use Rattle.report.specs.Writing.{Adds};
 
-// Writes a number in decimal digits.
-pub(crate) fn put_decimal(report: &mut [u8], at: usize, number: usize) -> usize
-    requires { Countable at (decimal number) }
-    ensures { Written (decimal number) report.old at report.new result }
-{
-    let last = b'0' + (number % 10) as u8;
-    if number < 10 {
-        return put_byte(report, at, last);
+    pub(crate) fn new(out: &'a mut [u8]) -> Writer<'a>
+        ensures same_slice { result.out.ghost_name ≡ out.entry.ghost_name }
+        ensures bytes { result.out.now ≡ out.old }
+        ensures none { result.count ≡ 0 }
+    {
+        Writer { out, count: 0 }
     }
-    let end = put_decimal(report, at, number / 10);
-    put_byte(report, end, last)
-}
 
-// Writes the lowest bits of a letter as binary digits, the highest first.
-pub(crate) fn put_binary(report: &mut [u8], at: usize, width: u8, letter: u8) -> usize
-    requires few { width ≤ 6 }
-    requires fits { Countable at (binary width letter) }
-    ensures { Written (binary width letter) report.old at report.new result }
-{
-    let mut end = at;
-    let mut left = width;
-    while left > 0 {
-        left -= 1;
-        end = put_byte(report, end, b'0' + (letter >> left) % 2);
+    pub(crate) fn push(&mut self, byte: u8)
+        ensures { Adds (byte ∷ []) self.old self.new }
+    {
+        // By index: of a write behind `self.out.get_mut(..)` nothing is known afterwards.
+        if self.count < self.out.len() {
+            self.out[self.count] = byte;
+        }
+        self.count = self.count.saturating_add(1);
     }
-    end
+
+    pub(crate) fn push_all(&mut self, bytes: &[u8])
+        ensures { Adds bytes.now self.old self.new }
+    {
+        for byte in bytes {
+            self.push(*byte);
+        }
+    }
+
+    pub(crate) fn push_decimal(&mut self, number: usize)
+        ensures { Adds (decimal number) self.old self.new }
+    {
+        let mut digits = Buffer::new();
+        self.push_all(digits.format(number).as_bytes());
+    }
+
+    // Writes the lowest bits of a letter as binary digits, the highest first.
+    pub(crate) fn push_binary(&mut self, width: u8, letter: u8)
+        requires { width ≤ 8 }
+        ensures { Adds (binary width letter) self.old self.new }
+    {
+        for bit in (0..width).rev() {
+            self.push(b'0' + (letter >> bit) % 2);
+        }
+    }
+
+    // Writes a line with a word and a number.
+    pub(crate) fn push_count(&mut self, word: &[u8], count: usize)
+        ensures { Adds (count_line word.now count) self.old self.new }
+    {
+        self.push_all(word);
+        self.push_decimal(count);
+        self.push(b'\n');
+    }
 }

@@ -1,12 +1,8 @@
-use Rattle.std.proofs.Common.{sym, ◌∙◌}
-use Rattle.machine.proofs.All.{all_more, all_stops, all_ends}
+use Rattle.std.proofs.Common.{rules, tests, ◌∙◌}
+use Rattle.std.proofs.lemmas.Iterator.{YieldsList-from_slice}
+use Rattle.std.proofs.lemmas.Iterator.Search.{all_from_yields_List}
+use Rattle.kiss2.proofs.Alls.{list_all_is}
 use Rattle.kiss2.proofs.reading.all_given.Goals as goal
 
-pub returns-then-not-cell : goal.returns-then-not-cell
-returns-then-not-cell c = sym (all_stops (λ b. b) _ _ _ c.loop-cell-test.true c.if-not-cell.true) ∙ c.loop-cell.invariant
-
-pub loop-cell-preserved : goal.loop-cell-preserved
-loop-cell-preserved c = all_more (λ b. b) _ _ _ c.loop-cell-test.true c.if-not-cell.false ∙ c.loop-cell.invariant
-
 pub returns : goal.returns
-returns c = sym (all_ends (λ b. b) _ _ c.loop-cell-test.false) ∙ c.loop-cell.invariant
+returns c = all_from_yields_List (λ b. b) _ _ _ c.all.ensures.ran (YieldsList-from_slice c.args.given.now cc) (λ x b q k. search (rules, tests)) ∙ list_all_is (λ b. b) c.args.given.now

@@ -1,13 +1,12 @@
-use Rattle.std.proofs.Common.{◌≡◌, ℕ, ◌<◌, List, length, take, Ok, sym, subst, arith}
+use Rattle.std.proofs.Common.{◌≡◌, ℕ, ◌<◌, List, length, take, Ok, subst, arith}
 use Rattle.std.proofs.lemmas.List.{length-take-le}
 use Rattle.std.proofs.lemmas.Result.{err_from_is_err_and}
-use Rattle.kiss2.specs.Laws.{Inside, entry_at}
 use Rattle.kiss2.specs.Naming.{Enlisted}
 use Rattle.kiss2.specs.Rows.{named}
 use Rattle.kiss2.specs.Texts.{part_of}
 use Rattle.kiss2.specs.declared.part.Part.{Part}
 use Rattle.kiss2.proofs.Enlisting.{first_again, first_are}
-use Rattle.kiss2.proofs.Entries.{named_each, named_grows}
+use Rattle.kiss2.proofs.Entries.{named_grows}
 use Rattle.kiss2.proofs.reading.number_states.Goals as goal
 
 pub returns-in_err-one : goal.returns-in_err-one
@@ -32,7 +31,6 @@ number_state-requires-2 c =
     record {
       few = e.3;
       room = omega (arith, c.requires.room, c.number_state.auto.names);
-      inside = λ q h. subst (λ (qs : List Part). Inside text (entry_at qs q)) (sym are) (named_each text ps p (Inside text) (λ i k. c.requires.inside i (omega (arith, k, long))) c.requires.first.inside q (omega (arith, h, e.2)));
       stands = c.requires.second;
       short = c.requires.short;
     }

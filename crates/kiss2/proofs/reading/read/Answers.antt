@@ -1,9 +1,8 @@
 use Rattle.std.proofs.Common.{◌≤◌, unwrap_or, sym, subst, arith}
 use Rattle.kiss2.specs.Placing.{table}
-use Rattle.kiss2.specs.Seeing.{NameInside}
 use Rattle.kiss2.specs.declared.heading.Heading.{Heading}
 use Rattle.kiss2.proofs.Conclusions.{held_width, read_is}
-use Rattle.kiss2.proofs.Stepping.{held_few, held_inside}
+use Rattle.kiss2.proofs.Stepping.{held_few}
 use Rattle.kiss2.proofs.reading.read.Goals as goal
 
 pub conclude-requires : goal.conclude-requires
@@ -14,8 +13,6 @@ conclude-requires c =
       names = omega (arith, c.if-names-lt-STATES.false, c.read_lines.auto.names);
       width = subst (λ (h : Heading). unwrap_or h.inputs 0 ≤ 6) (sym x.3.heading) (held_width x.2);
       given = c.read_lines.auto.given;
-      inside = held_inside x.2 x.3;
-      reset = subst (λ (h : Heading). NameInside c.args.text.now h.reset) (sym x.3.heading) x.2.reset;
     }
 
 pub returns : goal.returns

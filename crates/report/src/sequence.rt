@@ -1,0 +1,27 @@
+ghost use Rattle.std.specs.Prelude.{◌≤◌};
+ghost use Rattle.report.specs.Outcomes.{differ, rendering};
+
+use crate::writing::Writer;
+
+// A sequence of letters, with their width in bits.
+#[derive(Clone, Copy)]
+pub(crate) struct Sequence<'a> {
+    pub(crate) width: u8,
+    pub(crate) letters: &'a [u8],
+    ghost narrow: { width ≤ 6 },
+}
+
+impl Sequence<'_> {
+    ghost use Rattle.report.specs.Writing.{Adds};
+
+    // Writes how many letters there are, and a line for each.
+    pub(crate) fn write(&self, out: &mut Writer)
+        ensures { Adds (rendering (differ self.now.width self.now.letters.now)) out.old out.new }
+    {
+        out.push_count(b"differ ", self.letters.len());
+        for letter in self.letters {
+            out.push_binary(self.width, *letter);
+            out.push(b'\n');
+        }
+    }
+}
