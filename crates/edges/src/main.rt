@@ -147,10 +147,7 @@ const FIRST: AlteredCell = AlteredCell {
 };
 
 // An altered cell that leads past the controller's states.
-const PAST: AlteredCell = AlteredCell {
-    next: 4,
-    ..FIRST
-};
+const PAST: AlteredCell = AlteredCell { next: 4, ..FIRST };
 
 const INTAKES: [Intake; 17] = [
     GOOD,
@@ -206,10 +203,7 @@ const INTAKES: [Intake; 17] = [
     },
     Intake {
         altered: 1,
-        content: AlteredCell {
-            letter: 2,
-            ..FIRST
-        },
+        content: AlteredCell { letter: 2, ..FIRST },
         ..GOOD
     },
     Intake {
@@ -249,7 +243,11 @@ fn try_comparison(rt: &impl Print, table: &Table, case: Comparison) -> io::Resul
     let marks = &mut marks[..case.marks.min(20)];
     let letters = &mut letters[..case.letters.min(10)];
     let pairs = &mut pairs[..case.pairs.min(10)];
-    print!(rt; "{first} with {second}, {} visits, {} marks, filling {filling}: ", visits.len(), marks.len())?;
+    print!(rt;
+        "{first} with {second}, {} visits, {} marks, filling {filling}: ",
+        visits.len(),
+        marks.len()
+    )?;
     match compare(table, first, second, visits, marks, letters, pairs) {
         Ok(verdict) => print!(rt; "{verdict}")?,
         Err(refusal) => print!(rt; "{refusal}")?,
@@ -269,7 +267,11 @@ fn try_intake(rt: &impl Print, case: Intake) -> io::Result<()> {
     let list = [case.content; 1025];
     let altered = &list[..case.altered.min(1025)];
     let mut table = Table::idle();
-    print!(rt; "{pins} pins, {states} states, reset {reset}, {} cells, {} altered: ", cells.len(), altered.len())?;
+    print!(rt;
+        "{pins} pins, {states} states, reset {reset}, {} cells, {} altered: ",
+        cells.len(),
+        altered.len()
+    )?;
     match table.take_in(pins, states, reset, cells, altered) {
         Ok(()) => print!(rt; "taken in")?,
         Err(refusal) => print!(rt; "{refusal}")?,
@@ -417,7 +419,11 @@ fn try_reach(rt: &impl Print, table: &Table, case: Reaching) -> io::Result<()> {
     let visits = &mut visits[..case.visits.min(8)];
     let marks = &mut marks[..case.marks.min(8)];
     let letters = &mut letters[..case.letters.min(8)];
-    print!(rt; "reach {wanted} of {member}, {} visits, {} marks: ", visits.len(), marks.len())?;
+    print!(rt;
+        "reach {wanted} of {member}, {} visits, {} marks: ",
+        visits.len(),
+        marks.len()
+    )?;
     match reach(table, member, wanted, visits, marks, letters) {
         Ok(Some(length)) => print!(rt; "by {length}")?,
         Ok(None) => print!(rt; "unreachable")?,
