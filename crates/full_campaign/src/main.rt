@@ -93,7 +93,10 @@ impl<'a, R: Print + AllocGlobal> Bench<'a, R> {
         for n in 1..257 {
             if let Ok((length, origin)) = campaign.read_out(n, &mut self.buffer, 0) {
                 letters = letters.saturating_add(length);
-                println!(self.rt; "  sequence {n} for {origin}:{}", Letters(&self.buffer[..length]))?;
+                println!(self.rt;
+                    "  sequence {n} for {origin}:{}",
+                    Letters(&self.buffer[..length])
+                )?;
             }
         }
         Ok(letters)
@@ -106,23 +109,19 @@ impl<'a, R: Print + AllocGlobal> Bench<'a, R> {
         self.judge_all(&mut campaign, members)?;
         show_marks(self.rt, &campaign, members)?;
         let letters = self.show_kept(&campaign)?;
-        let found = count_marks(&campaign, members, |mark| matches!(mark, Mark::Found(_)));
-        let undetectable = count_marks(&campaign, members, |mark| mark == Mark::Undetectable);
-        let open = count_marks(&campaign, members, |mark| mark == Mark::Open);
-        println!(self.rt; "  found {found}, undetectable {undetectable}, open {open}; letters {letters}")
+        let found = (1..members)
+            .filter(|fault| matches!(campaign.mark(*fault), Ok(Mark::Found(_))))
+            .count();
+        let undetectable = (1..members)
+            .filter(|fault| matches!(campaign.mark(*fault), Ok(Mark::Undetectable)))
+            .count();
+        let open = (1..members)
+            .filter(|fault| matches!(campaign.mark(*fault), Ok(Mark::Open)))
+            .count();
+        println!(self.rt;
+            "  found {found}, undetectable {undetectable}, open {open}; letters {letters}"
+        )
     }
-}
-
-// How many faults have a mark of a kind.
-fn count_marks<D: Device>(
-    campaign: &Campaign<D>,
-    members: u16,
-    is_of_kind: impl Fn(Mark) -> bool,
-) -> usize {
-    (1..members)
-        .filter_map(|fault| campaign.mark(fault).ok())
-        .filter(|mark| is_of_kind(*mark))
-        .count()
 }
 
 fn show_marks<D: Device>(rt: &impl Print, campaign: &Campaign<D>, members: u16) -> io::Result<()> {

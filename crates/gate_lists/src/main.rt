@@ -121,8 +121,12 @@ impl<'a, R: Print + AllocGlobal> Bench<'a, R> {
                 Err(_) => {}
             }
         }
-        let found = count_marks(&campaign, members, |mark| matches!(mark, Mark::Found(_)));
-        let undetectable = count_marks(&campaign, members, |mark| mark == Mark::Undetectable);
+        let found = (1..members)
+            .filter(|fault| matches!(campaign.mark(*fault), Ok(Mark::Found(_))))
+            .count();
+        let undetectable = (1..members)
+            .filter(|fault| matches!(campaign.mark(*fault), Ok(Mark::Undetectable)))
+            .count();
         println!(rt; "  found {found}, undetectable {undetectable}; letters {letters}")
     }
 
@@ -141,8 +145,14 @@ impl<'a, R: Print + AllocGlobal> Bench<'a, R> {
             &mut letters,
             &mut pairs,
         ) {
-            Ok(verdict @ Verdict::Differ { length }) => println!(rt; "{verdict}:{}", Letters(&letters[..length])),
-            Ok(verdict @ Verdict::Equivalent { count }) => println!(rt; "{verdict}:{}", Pairs(&pairs[..count])),
+            Ok(verdict @ Verdict::Differ { length }) => println!(rt;
+                "{verdict}:{}",
+                Letters(&letters[..length])
+            ),
+            Ok(verdict @ Verdict::Equivalent { count }) => println!(rt;
+                "{verdict}:{}",
+                Pairs(&pairs[..count])
+            ),
             Err(refusal) => println!(rt; "{refusal}"),
         }
     }
@@ -168,18 +178,6 @@ impl<'a, R: Print + AllocGlobal> Bench<'a, R> {
     }
 }
 
-// How many faults have a mark of a kind.
-fn count_marks<D: Device>(
-    campaign: &Campaign<D>,
-    members: u16,
-    is_of_kind: impl Fn(Mark) -> bool,
-) -> usize {
-    (1..members)
-        .filter_map(|fault| campaign.mark(fault).ok())
-        .filter(|mark| is_of_kind(*mark))
-        .count()
-}
-
 // Prints a kept sequence: how many letters it has.
 fn show_sequence<D: Device>(
     rt: &impl Print,
@@ -191,7 +189,10 @@ fn show_sequence<D: Device>(
     let length = campaign
         .read_out(number, &mut buffer, 0)
         .map_or(0, |(length, _origin)| length);
-    println!(rt; "  fault {fault}: sequence {number}:{}", Letters(&buffer[..length]))?;
+    println!(rt;
+        "  fault {fault}: sequence {number}:{}",
+        Letters(&buffer[..length])
+    )?;
     Ok(length)
 }
 
