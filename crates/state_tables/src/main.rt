@@ -4,7 +4,6 @@
 
 use devices::Cell;
 use kiss2::{Part, Side, name};
-use machine::Refusal;
 use report::report;
 use search::Visit;
 use std::io;
@@ -31,26 +30,16 @@ struct Sizes {
     bytes: usize,
 }
 
-// The number that a word writes, at most the given one.
+// The number that a word writes, or the most.
 fn number(word: Option<&str>, most: usize) -> usize {
     word.and_then(|digits| digits.parse::<usize>().ok())
-        .map_or(most, |n| n.min(most))
+        .unwrap_or(most)
 }
 
-// Prints what a report call answered and wrote.
-fn print_answer(
-    rt: &impl Print,
-    written: Result<usize, Refusal>,
-    bytes: &[u8],
-) -> anyhow::Result<()> {
-    match written {
-        Ok(length) => io::writer(rt).write_all(&bytes[..length])?,
-        Err(refusal) => {
-            let same = bytes.iter().all(|&byte| byte == FRESH);
-            println!(rt; "refused by {}, slice as it was: {same}", refusal.number())?;
-        }
-    }
-    Ok(())
+// The first entries of a slice: so many, or all where there are fewer.
+fn first<T>(count: usize, all: &mut [T]) -> &mut [T] {
+    let count = count.min(all.len());
+    &mut all[..count]
 }
 
 // Prints the report over two texts, with slices of these sizes.
@@ -62,19 +51,26 @@ fn show(rt: &impl Print, sizes: Sizes, good: &str, faulty: &str) -> anyhow::Resu
     let mut visits = [Visit::default(); POSITIONS];
     let mut marks = [7; POSITIONS];
     let mut bytes = [FRESH; BYTES];
-    let bytes = &mut bytes[..sizes.bytes.min(BYTES)];
+    let bytes = first(sizes.bytes, &mut bytes);
     let written = report(
         good.as_bytes(),
         faulty.as_bytes(),
-        &mut good_cells[..sizes.cells.min(CELLS)],
-        &mut good_names[..sizes.names.min(NAMES)],
-        &mut faulty_cells[..sizes.cells.min(CELLS)],
-        &mut faulty_names[..sizes.names.min(NAMES)],
-        &mut visits[..sizes.visits.min(POSITIONS)],
-        &mut marks[..sizes.marks.min(POSITIONS)],
+        first(sizes.cells, &mut good_cells),
+        first(sizes.names, &mut good_names),
+        first(sizes.cells, &mut faulty_cells),
+        first(sizes.names, &mut faulty_names),
+        first(sizes.visits, &mut visits),
+        first(sizes.marks, &mut marks),
         bytes,
     );
-    print_answer(rt, written, bytes)
+    match written {
+        Ok(length) => io::writer(rt).write_all(&bytes[..length])?,
+        Err(refusal) => {
+            let same = bytes.iter().all(|&byte| byte == FRESH);
+            println!(rt; "refused by {}, slice as it was: {same}", refusal.number())?;
+        }
+    }
+    Ok(())
 }
 
 // Runs one case.
