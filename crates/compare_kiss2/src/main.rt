@@ -1,14 +1,14 @@
 // Compares two state tables: reads good.kiss and faulty.kiss of the folder it is run in, and prints the report.
 #![tactic(auto)]
 
-use anyhow::anyhow;
+use anyhow::bail;
 use devices::Cell;
 use kiss2::Part;
-use machine::Pair;
 use report::report;
 use search::Visit;
 use std::fs;
 use std::io::Write;
+use std::rt::Files;
 
 // How many cells each table may have.
 const CELLS: usize = 1024;
@@ -23,34 +23,21 @@ const POSITIONS: usize = 1024;
 const BYTES: usize = 40000;
 
 // The bytes of a file; none where it cannot be read.
-fn text_of(rt: &HostRuntime, path: &str) -> Vec<u8> {
-    match fs::read(rt, path) {
-        Ok(bytes) => bytes,
-        Err(_) => Vec::new(rt.alloc()),
-    }
+fn text_of(rt: &(impl Files + AllocGlobal), path: &str) -> Vec<u8> {
+    fs::read(rt, path).unwrap_or_else(|_| Vec::new(rt.alloc()))
 }
 
 fn main(rt: HostRuntime) -> anyhow::Result<()> {
     let good = text_of(&rt, "good.kiss");
     let faulty = text_of(&rt, "faulty.kiss");
-    let mut good_cells = [Cell { next: 0, output: 0 }; CELLS];
-    let mut good_names = [Part {
-        place: 0,
-        length: 0,
-    }; NAMES];
+    let mut good_cells = [Cell::default(); CELLS];
+    let mut good_names = [Part::default(); NAMES];
     let mut faulty_cells = good_cells;
     let mut faulty_names = good_names;
-    let mut visits = [Visit {
-        position: Pair {
-            first: 0,
-            second: 0,
-        },
-        from: 0,
-        letter: 0,
-    }; POSITIONS];
+    let mut visits = [Visit::default(); POSITIONS];
     let mut marks = [0; POSITIONS];
     let mut bytes = [0; BYTES];
-    let written = report(
+    let Ok(length) = report(
         &good,
         &faulty,
         &mut good_cells,
@@ -60,10 +47,9 @@ fn main(rt: HostRuntime) -> anyhow::Result<()> {
         &mut visits,
         &mut marks,
         &mut bytes,
-    );
-    match written {
-        Ok(length) if length <= BYTES => rt.stdout().write_all(&bytes[0..length])?,
-        _ => return Err(anyhow!("the report does not fit")),
-    }
+    ) else {
+        bail!("the report does not fit");
+    };
+    rt.stdout().write_all(&bytes[..length])?;
     Ok(())
 }

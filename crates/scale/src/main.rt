@@ -1,9 +1,9 @@
 // The largest comparison and check: 256 states and 64 letters, with every one of the 65,536 pairs reached.
 #![tactic(auto)]
 
-use compare::{Finding, Verdict, check, compare};
+use compare::{Verdict, check, compare};
 use devices::{AlteredCell, Cell, Table};
-use machine::{Pair, Refusal};
+use machine::Pair;
 use search::Visit;
 use std::alloc::{AllocError, Global};
 
@@ -24,16 +24,14 @@ fn next(state: u16, letter: u8) -> u16 {
 }
 
 fn cells(heap: Global) -> Result<Vec<Cell>, AllocError> {
-    let mut cells = Vec::new(heap);
-    for state in 0..STATES {
-        for letter in 0..LETTERS {
-            cells.push(Cell {
+    (0..STATES)
+        .flat_map(|state| {
+            (0..LETTERS).map(move |letter| Cell {
                 next: next(state, letter),
                 output: 0,
-            })?;
-        }
-    }
-    Ok(cells)
+            })
+        })
+        .collect(heap)
 }
 
 // Fault 1 leads elsewhere and shows no difference ever; fault 2 shows one in a state that is far from reset.
@@ -52,36 +50,14 @@ const ALTERED: [AlteredCell; 2] = [
     },
 ];
 
-// Checks the pairs that were found.
-fn show_check(rt: &HostRuntime, table: &Table, second: u16, pairs: &[Pair]) -> anyhow::Result<()> {
-    match check(table, 0, second, pairs) {
-        Ok(Finding::Closed) => println!(rt; "0 with {second}: closed")?,
-        Ok(_) => println!(rt; "0 with {second}: not closed")?,
-        Err(refusal) => {
-            let number = refusal.number();
-            println!(rt; "0 with {second}: refused {number}")?
-        }
-    }
-    Ok(())
-}
-
-fn show(rt: &HostRuntime, table: &Table, second: u16) -> anyhow::Result<()> {
+// Compares the good table with a faulty one, and checks the pairs that were found.
+fn show(rt: &(impl Print + AllocGlobal), table: &Table, second: u16) -> anyhow::Result<()> {
     let heap = rt.alloc();
-    let mut visits = vec![in heap; Visit {
-        position: Pair {
-            first: 0,
-            second: 0
-        },
-        from: 0,
-        letter: 0
-    }; PAIRS]?;
-    let mut marks = vec![in heap; 0u32; PAIRS]?;
-    let mut letters = vec![in heap; 0u8; PAIRS]?;
-    let mut pairs = vec![in heap; Pair {
-        first: 0,
-        second: 0
-    }; PAIRS]?;
-    match compare(
+    let mut visits = vec![in heap; Visit::default(); PAIRS]?;
+    let mut marks = vec![in heap; 0; PAIRS]?;
+    let mut letters = vec![in heap; 0; PAIRS]?;
+    let mut pairs = vec![in heap; Pair::default(); PAIRS]?;
+    let verdict = compare(
         table,
         0,
         second,
@@ -89,17 +65,12 @@ fn show(rt: &HostRuntime, table: &Table, second: u16) -> anyhow::Result<()> {
         &mut marks,
         &mut letters,
         &mut pairs,
-    ) {
-        Ok(Verdict::Differ { length }) => println!(rt; "0 with {second}: differ {length}")?,
-        Ok(Verdict::Equivalent { count }) => {
-            println!(rt; "0 with {second}: equivalent {count}")?;
-            if count <= pairs.len() {
-                show_check(rt, table, second, &pairs.as_slice()[0..count])?;
-            }
-        }
-        Err(refusal) => {
-            let number = refusal.number();
-            println!(rt; "0 with {second}: refused {number}")?
+    )?;
+    println!(rt; "0 with {second}: {verdict}")?;
+    if let Verdict::Equivalent { count } = verdict {
+        match check(table, 0, second, &pairs[..count])? {
+            None => println!(rt; "0 with {second}: closed")?,
+            Some(_) => println!(rt; "0 with {second}: not closed")?,
         }
     }
     Ok(())
@@ -108,10 +79,7 @@ fn show(rt: &HostRuntime, table: &Table, second: u16) -> anyhow::Result<()> {
 fn main(rt: HostRuntime) -> anyhow::Result<()> {
     let cells = cells(rt.alloc())?;
     let mut table = Table::idle();
-    if let Err(refusal) = table.take_in(6, STATES, 0, &cells, &ALTERED) {
-        let number = refusal.number();
-        println!(rt; "the table is refused by {number}")?;
-    }
+    table.take_in(6, STATES, 0, &cells, &ALTERED)?;
     show(&rt, &table, 1)?;
     show(&rt, &table, 2)
 }

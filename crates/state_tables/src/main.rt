@@ -4,9 +4,9 @@
 
 use devices::Cell;
 use kiss2::{Part, Side, name};
-use machine::{Pair, Refusal};
 use report::report;
 use search::Visit;
+use std::io;
 use std::io::{Read, Write};
 
 const CELLS: usize = 16384;
@@ -30,115 +30,53 @@ struct Sizes {
     bytes: usize,
 }
 
-// The number that a word writes, at most the given one.
+// The number that a word writes, or the most.
 fn number(word: Option<&str>, most: usize) -> usize {
-    match word {
-        Some(digits) => match digits.parse::<usize>() {
-            Ok(n) => n.min(most),
-            Err(_) => most,
-        },
-        None => most,
-    }
+    word.and_then(|digits| digits.parse::<usize>().ok())
+        .unwrap_or(most)
 }
 
-// Whether nothing has been written.
-fn untouched(bytes: &[u8]) -> bool {
-    for byte in bytes {
-        if *byte != FRESH {
-            return false;
-        }
-    }
-    true
+// The first entries of a slice: so many, or all where there are fewer.
+fn first<T>(count: usize, all: &mut [T]) -> &mut [T] {
+    let count = count.min(all.len());
+    &mut all[..count]
 }
 
-// Prints what a report call answered and wrote.
-fn print_answer(
-    rt: &HostRuntime,
-    written: Result<usize, Refusal>,
-    bytes: &[u8],
-) -> anyhow::Result<()> {
+// Prints the report over two texts, with slices of these sizes.
+fn show(rt: &impl Print, sizes: Sizes, good: &str, faulty: &str) -> anyhow::Result<()> {
+    let mut good_cells = [Cell::default(); CELLS];
+    let mut faulty_cells = good_cells;
+    let mut good_names = [Part::default(); NAMES];
+    let mut faulty_names = good_names;
+    let mut visits = [Visit::default(); POSITIONS];
+    let mut marks = [7; POSITIONS];
+    let mut bytes = [FRESH; BYTES];
+    let bytes = first(sizes.bytes, &mut bytes);
+    let written = report(
+        good.as_bytes(),
+        faulty.as_bytes(),
+        first(sizes.cells, &mut good_cells),
+        first(sizes.names, &mut good_names),
+        first(sizes.cells, &mut faulty_cells),
+        first(sizes.names, &mut faulty_names),
+        first(sizes.visits, &mut visits),
+        first(sizes.marks, &mut marks),
+        bytes,
+    );
     match written {
-        Ok(length) if length <= bytes.len() => rt.stdout().write_all(&bytes[0..length])?,
-        Ok(_) => println!(rt; "the count is past the slice")?,
+        Ok(length) => io::writer(rt).write_all(&bytes[..length])?,
         Err(refusal) => {
-            let number = refusal.number();
-            let same = untouched(bytes);
-            println!(rt; "refused by {number}, slice as it was: {same}")?;
+            let same = bytes.iter().all(|&byte| byte == FRESH);
+            println!(rt; "refused by {}, slice as it was: {same}", refusal.number())?;
         }
     }
     Ok(())
 }
 
-// Prints the report over two texts and these slices.
-fn print_report(
-    rt: &HostRuntime,
-    good: &[u8],
-    faulty: &[u8],
-    good_cells: &mut [Cell],
-    good_names: &mut [Part],
-    faulty_cells: &mut [Cell],
-    faulty_names: &mut [Part],
-    visits: &mut [Visit<Pair>],
-    marks: &mut [u32],
-    bytes: &mut [u8],
-) -> anyhow::Result<()> {
-    let written = report(
-        good,
-        faulty,
-        good_cells,
-        good_names,
-        faulty_cells,
-        faulty_names,
-        visits,
-        marks,
-        bytes,
-    );
-    print_answer(rt, written, bytes)
-}
-
-// Prints the report over two texts, with slices of these sizes.
-fn show(rt: &HostRuntime, sizes: Sizes, good: &str, faulty: &str) -> anyhow::Result<()> {
-    let mut good_cells = [Cell { next: 0, output: 0 }; CELLS];
-    let mut faulty_cells = good_cells;
-    let mut good_names = [Part {
-        place: 0,
-        length: 0,
-    }; NAMES];
-    let mut faulty_names = good_names;
-    let mut visits = [Visit {
-        position: Pair {
-            first: 0,
-            second: 0,
-        },
-        from: 0,
-        letter: 0,
-    }; POSITIONS];
-    let mut marks = [7; POSITIONS];
-    let mut bytes = [FRESH; BYTES];
-    print_report(
-        rt,
-        good.as_bytes(),
-        faulty.as_bytes(),
-        &mut good_cells[0..sizes.cells.min(CELLS)],
-        &mut good_names[0..sizes.names.min(NAMES)],
-        &mut faulty_cells[0..sizes.cells.min(CELLS)],
-        &mut faulty_names[0..sizes.names.min(NAMES)],
-        &mut visits[0..sizes.visits.min(POSITIONS)],
-        &mut marks[0..sizes.marks.min(POSITIONS)],
-        &mut bytes[0..sizes.bytes.min(BYTES)],
-    )
-}
-
 // Runs one case.
-fn run(rt: &HostRuntime, case: &str) -> anyhow::Result<()> {
+fn run(rt: &impl Print, case: &str) -> anyhow::Result<()> {
     let mut parts = case.split('|');
-    let Some(header) = parts.next() else {
-        return Ok(());
-    };
-    let Some(good) = parts.next() else {
-        return Ok(());
-    };
-    let Some(faulty) = parts.next() else {
+    let (Some(header), Some(good), Some(faulty)) = (parts.next(), parts.next(), parts.next()) else {
         return Ok(());
     };
     let mut words = header.split(' ');
@@ -150,46 +88,25 @@ fn run(rt: &HostRuntime, case: &str) -> anyhow::Result<()> {
         bytes: number(words.next(), BYTES),
     };
     println!(rt; "~{header}")?;
-    if faulty == "=" {
-        show(rt, sizes, good, good)
-    } else {
-        show(rt, sizes, good, faulty)
-    }
+    show(rt, sizes, good, if faulty == "=" { good } else { faulty })
+}
+
+fn part(place: u16, length: u16) -> Part {
+    Part { place, length }
 }
 
 // Prints the name of a state on a side.
-fn show_name(rt: &HostRuntime, side: Side, state: u16) -> anyhow::Result<()> {
+fn show_name(rt: &impl Print, side: Side, state: u16) -> anyhow::Result<()> {
     let good = b"off run";
     let faulty = b"idle";
-    let good_names = [
-        Part {
-            place: 0,
-            length: 3,
-        },
-        Part {
-            place: 4,
-            length: 3,
-        },
-    ];
-    let faulty_names = [
-        Part {
-            place: 0,
-            length: 4,
-        },
-        Part {
-            place: 1,
-            length: 4,
-        },
-    ];
+    let good_names = [part(0, 3), part(4, 3)];
+    let faulty_names = [part(0, 4), part(1, 4)];
     match name(good, &good_names, faulty, &faulty_names, side, state) {
         Ok(bytes) => {
-            rt.stdout().write_all(bytes)?;
+            io::writer(rt).write_all(bytes)?;
             println!(rt; "")?;
         }
-        Err(refusal) => {
-            let number = refusal.number();
-            println!(rt; "refused by {number}")?;
-        }
+        Err(refusal) => println!(rt; "refused by {}", refusal.number())?,
     }
     Ok(())
 }

@@ -8,8 +8,8 @@ use Rattle.machine.specs.declared.refusal.Refusal.{Refusal}
 use Rattle.machine.specs.declared.refusal.Refusal.TheVariants.{FaultNotOpen}
 use Rattle.compare.specs.Checks.{checked}
 use Rattle.compare.specs.Replays.{replayed}
-use Rattle.compare.specs.declared.finding.Finding.{Finding}
-use Rattle.compare.specs.declared.finding.Finding.TheVariants.{NoResetPair, SuccessorMissing}
+use Rattle.compare.specs.declared.flaw.Flaw.{Flaw}
+use Rattle.compare.specs.declared.flaw.Flaw.TheVariants.{NoResetPair, SuccessorMissing}
 use Rattle.campaign.specs.Books.{Entry, entry}
 use Rattle.campaign.specs.Histories.{Call, judge, KeptBy, First, TrueRefusal}
 use Rattle.worked.specs.Controller.{controller, unseen}
@@ -24,8 +24,8 @@ pub data Case : Type 0 where
   replay : Machine → ℕ → ℕ → List ℕ → Option ℕ → Case
   -- s is the least sequence to the state q
   reach : Machine → ℕ → ℕ → List ℕ → Case
-  -- the check of these pairs finds this
-  check : Machine → ℕ → ℕ → List Pair → Finding → Case
+  -- the check of these pairs finds this, or nothing wrong
+  check : Machine → ℕ → ℕ → List Pair → Option Flaw → Case
   -- the calls, the latest first, keep these sequences
   keeps : Machine → List Call → List Entry → Case
   -- after these calls, with these sequences kept, fault f is found by n
@@ -38,7 +38,7 @@ Holds (differ m a b s) = LeastDistinguishing m a b s
 Holds (equivalent m a b ps) = Equivalent m a b × ReachablePairs m a b ps
 Holds (replay m a b s place) = replayed m a b s ≡ Ok place
 Holds (reach m a q s) = LeastWay m a q s
-Holds (check m a b ps f) = checked m a b ps ≡ Ok f
+Holds (check m a b ps flaw) = checked m a b ps ≡ Ok flaw
 Holds (keeps m cs es) = KeptBy m cs es
 Holds (found m cs es f n) = KeptBy m cs es × First m es f n
 Holds (refused m cs es f r) = KeptBy m cs es × TrueRefusal m cs es f 16 16 r
@@ -64,8 +64,8 @@ cases =
     ∷ replay controller 0 1 (0 ∷ 1 ∷ 0 ∷ 1 ∷ []) None
     ∷ replay controller 0 1 telling (Some 4)
     ∷ reach controller 0 3 (0 ∷ 1 ∷ 0 ∷ [])
-    ∷ check controller 0 2 (pair 0 0 ∷ pair 1 1 ∷ pair 2 2 ∷ []) (SuccessorMissing 2 0)
-    ∷ check controller 0 2 (pair 1 1 ∷ pair 2 2 ∷ pair 3 3 ∷ []) NoResetPair
+    ∷ check controller 0 2 (pair 0 0 ∷ pair 1 1 ∷ pair 2 2 ∷ []) (Some (SuccessorMissing 2 0))
+    ∷ check controller 0 2 (pair 1 1 ∷ pair 2 2 ∷ pair 3 3 ∷ []) (Some NoResetPair)
     ∷ found controller (judge 1 16 16 ∷ []) (entry telling 1 ∷ []) 1 1
     ∷ found controller (judge 1 16 16 ∷ []) (entry telling 1 ∷ []) 3 1
     ∷ refused controller (judge 1 16 16 ∷ []) (entry telling 1 ∷ []) 3 FaultNotOpen
