@@ -54,6 +54,7 @@ impl<'a, R: Print> Session<'a, R> {
         }
     }
 
+    // By hand, since this line has hyphens where a mark and a refusal print spaces.
     fn show_marks(&self) -> io::Result<()> {
         let rt = self.rt;
         print!(rt; "  marks:")?;

@@ -452,6 +452,7 @@ fn try_unreachable(rt: &impl Print) -> io::Result<()> {
     }
 }
 
+// The words are this program's own: the one that prints the controller puts `at place` for `, place`.
 fn try_check(
     rt: &impl Print,
     table: &Table,

@@ -63,6 +63,7 @@ fn show(rt: &impl Print, sizes: Sizes, good: &str, faulty: &str) -> anyhow::Resu
         first(sizes.marks, &mut marks),
         bytes,
     );
+    // A refusal prints `refused 14`; this program's lines say `refused by 14`.
     match written {
         Ok(length) => io::writer(rt).write_all(&bytes[..length])?,
         Err(refusal) => {
