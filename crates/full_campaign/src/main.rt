@@ -42,6 +42,7 @@ fn made_cells(heap: Global) -> Result<Vec<Cell>, AllocError> {
 }
 
 // The fault of each cell: it leads where the next state's cell leads. For some cells that is no change.
+// A chain of its own: one function for cells and faults would be handed the rule and the item's type, and be longer than both.
 fn made_faults(heap: Global) -> Result<Vec<AlteredCell>, AllocError> {
     (0..STATES)
         .flat_map(|state| {
@@ -89,6 +90,7 @@ impl<'a, R: Print + AllocGlobal> Bench<'a, R> {
 
     // Prints the kept sequences with their origins: how many letters they have together.
     fn show_kept<D: Device>(&mut self, campaign: &Campaign<D>) -> io::Result<usize> {
+        // Added up in the loop that prints: a sum by a chain would read every sequence out twice.
         let mut letters = 0usize;
         for n in 1..257 {
             if let Ok((length, origin)) = campaign.read_out(n, &mut self.buffer, 0) {

@@ -110,6 +110,7 @@ impl<'a, R: Print + AllocGlobal> Bench<'a, R> {
         let rt = self.rt;
         let members = device.members();
         let mut campaign = Campaign::make(device);
+        // Added up in the loop that prints: a sum by a chain would read every sequence out twice.
         let mut letters = 0usize;
         println!(rt; "{name}:")?;
         for fault in 1..members {
