@@ -32,7 +32,7 @@ impl Default for Kept {
     }
 }
 
-// The marks by fault, and the kept sequences, one behind the other in `letters`.
+// The marks by fault, a table of fixed size as libraries use no heap, and the kept sequences, one behind the other in `letters`.
 // `letters` is an array beside `used`, since a search writes its sequence in place behind the used ones before it is kept.
 #[derive(Drop)]
 pub(crate) struct Ledger {

@@ -1,5 +1,5 @@
 -- The law of each walk, which the trait asks for: start and steps stay inside, and positions are numbered apart.
-use Rattle.std.specs.Prelude.{◌≡◌, ℕ, ◌*◌, ◌/◌, ◌%◌, ◌<◌, ◌≤◌, Bool, true, false, cond, Some, None, ◌==◌}
+use Rattle.std.specs.Prelude.{◌≡◌, ℕ, ◌*◌, ◌/◌, ◌%◌, ◌<◌, ◌≤◌, Bool, true, false, if◌then◌else◌, Some, None, ◌==◌}
 use Rattle.std.proofs.Common.{sym, ap, subst, ◌∙◌, arith, mul-le-mul}
 use Rattle.std.proofs.Math.Arith.{digits_lt, digits_div, digits_mod}
 use Rattle.machine.specs.Machines.{Machine, Sound, step_of}
@@ -28,7 +28,7 @@ module _ (m : Machine) (sound : Sound m) (a b : ℕ) where
   stepped : (p : Pair) (l : ℕ) (q : Pair) → pair_step m a b p l ≡ Some q → PairInside m q
   stepped p l q e = go (differ (step_of m a p.first l).1 (step_of m b p.second l).1) e
     where
-      go : (t : Bool) → cond t None (Some (pair (step_of m a p.first l).0 (step_of m b p.second l).0)) ≡ Some q → PairInside m q
+      go : (t : Bool) → (if t then None else Some (pair (step_of m a p.first l).0 (step_of m b p.second l).0)) ≡ Some q → PairInside m q
       go true o = absurd cc
       go false o =
           let x : (step_of m a p.first l).0 ≡ q.first = cc in
@@ -48,7 +48,7 @@ module _ (m : Machine) (sound : Sound m) (a wanted : ℕ) where
   arrived : (p l q : ℕ) → state_step m a wanted p l ≡ Some q → q < m.states
   arrived p l q e = go ((step_of m a p l).0 == wanted) e
     where
-      go : (t : Bool) → cond t None (Some (step_of m a p l).0) ≡ Some q → q < m.states
+      go : (t : Bool) → (if t then None else Some (step_of m a p l).0) ≡ Some q → q < m.states
       go true o = absurd cc
       go false o = let x : (step_of m a p l).0 ≡ q = cc in subst (λ (n : ℕ). n < m.states) x (next_below m sound a p l)
 

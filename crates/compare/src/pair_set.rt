@@ -6,7 +6,7 @@ use machine::{Pair, Refusal};
 // As many pairs of states as a device can have.
 const PAIRS: usize = 65536;
 
-// A set of pairs of states: a mark for the number of each.
+// A set of pairs of states: a mark for the number of each, in an array, as libraries use no heap.
 #[derive(Drop)]
 pub(crate) struct PairSet {
     states: u16,

@@ -1,6 +1,6 @@
 use std::fmt;
 
-// What a comparison says of two members.
+// What a comparison says of two members: one of two answers, each with its count, so neither is the absence of the other.
 #[derive(Clone, Copy, PartialEq, Eq, Hash, Debug)]
 pub enum Verdict {
     // The first `length` letters are the least distinguishing sequence.

@@ -1,5 +1,5 @@
 -- The cells of a table and of its faults, and when their states and letters are in range.
-use Rattle.std.specs.Prelude.{ℕ, ◌+◌, ◌-◌, ◌*◌, Bool, cond, ◌&&◌, List, ◌==◌, nat_lt, slice_index_or}
+use Rattle.std.specs.Prelude.{ℕ, ◌+◌, ◌-◌, ◌*◌, Bool, if◌then◌else◌, ◌&&◌, List, ◌==◌, nat_lt, slice_index_or}
 use Rattle.machine.specs.Lists.{all}
 use Rattle.devices.specs.declared.cell.Cell.{Cell}
 use Rattle.devices.specs.declared.cell.AlteredCell.{AlteredCell}
@@ -34,8 +34,8 @@ good_cell letters cells q l = slice_index_or cells (q * letters + l) no_cell
 
 -- the cell of state q and letter l in the fault of the altered cell x
 abbrev pub faulty_cell : AlteredCell → Cell → ℕ → ℕ → Cell
-faulty_cell x good q l = cond (x.state == q && x.letter == l) (record { next = x.next; output = x.output }) good
+faulty_cell x good q l = if x.state == q && x.letter == l then record { next = x.next; output = x.output } else good
 
 -- the cell of member a at state q and letter l: member 0 is the good table, member k has the altered cell k - 1
 abbrev pub cell_of : ℕ → List Cell → List AlteredCell → ℕ → ℕ → ℕ → Cell
-cell_of letters cells altered a q l = cond (a == 0) (good_cell letters cells q l) (faulty_cell (slice_index_or altered (a - 1) no_altered_cell) (good_cell letters cells q l) q l)
+cell_of letters cells altered a q l = if a == 0 then good_cell letters cells q l else faulty_cell (slice_index_or altered (a - 1) no_altered_cell) (good_cell letters cells q l) q l

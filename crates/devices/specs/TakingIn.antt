@@ -1,5 +1,5 @@
 -- Taking a table in: which tables are refused, and what the device means afterwards.
-use Rattle.std.specs.Prelude.{◌≡◌, ℕ, ◌*◌, ◌^◌, Bool, cond, not, ◌||◌, List, length, take, Some, None, Ok, Err, Option, Result, nat_lt}
+use Rattle.std.specs.Prelude.{◌≡◌, ℕ, ◌*◌, ◌^◌, Bool, if◌then◌else◌, not, ◌||◌, List, length, take, Some, None, Ok, Err, Option, Result, nat_lt}
 use Rattle.machine.specs.declared.refusal.Refusal.{Refusal}
 use Rattle.machine.specs.declared.refusal.Refusal.TheVariants.{OutsideDeviceRules, WorkTooShort, BadAlteredCell}
 use Rattle.devices.specs.Cells.{cells_inside, altered_inside}
@@ -15,10 +15,10 @@ outside_rules pins states reset = nat_lt pins 1 || nat_lt 6 pins || nat_lt state
 -- why a table is refused, if it is: the checks in their order
 abbrev pub table_refusal : ℕ → ℕ → ℕ → List Cell → List AlteredCell → Option Refusal
 table_refusal pins states reset cells altered =
-    cond (outside_rules pins states reset) (Some OutsideDeviceRules)
-    (cond (nat_lt (length cells) (states * 2 ^ pins)) (Some WorkTooShort)
-    (cond (not (cells_inside states (take (states * 2 ^ pins) cells))) (Some OutsideDeviceRules)
-    (cond (nat_lt 1024 (length altered) || not (altered_inside (2 ^ pins) states altered)) (Some BadAlteredCell) None)))
+    if outside_rules pins states reset then Some OutsideDeviceRules
+    else (if nat_lt (length cells) (states * 2 ^ pins) then Some WorkTooShort
+    else (if not (cells_inside states (take (states * 2 ^ pins) cells)) then Some OutsideDeviceRules
+    else (if nat_lt 1024 (length altered) || not (altered_inside (2 ^ pins) states altered) then Some BadAlteredCell else None)))
 
 -- a table taken in: it is what the device means afterwards, or it is refused and the device is as it was
 abbrev pub TakenIn : ℕ → ℕ → ℕ → List Cell → List AlteredCell → Table → Table → Result Unit Refusal → Type 0

@@ -1,12 +1,12 @@
 -- The kinds of gates.
-use Rattle.std.specs.Prelude.{ℕ, Bool, true, false, cond, not, ◌&&◌, ◌||◌, [], ◌∷◌}
+use Rattle.std.specs.Prelude.{ℕ, Bool, true, false, if◌then◌else◌, not, ◌&&◌, ◌||◌, [], ◌∷◌}
 use Rattle.gates.specs.Words.{word}
 use Rattle.gates.specs.declared.gate.Kind.{Kind}
 use Rattle.gates.specs.declared.gate.Kind.TheVariants.{And, Or, Nand, Nor, Xor, Xnor, Not, Buff}
 
 -- one of two values, and not both
 abbrev pub either : Bool → Bool → Bool
-either x y = cond x (not y) y
+either x y = if x then not y else y
 
 -- what a gate makes of the values x and y of the nets that it reads
 abbrev pub gate_value : Kind → Bool → Bool → Bool

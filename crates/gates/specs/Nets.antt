@@ -1,12 +1,12 @@
 -- The values of the nets of a gate list: first the pins, then the flip-flops, then the gates in their order.
-use Rattle.std.specs.Prelude.{ℕ, ◌+◌, ◌*◌, Bool, true, false, cond, List, [], ◌∷◌, ◌++◌, map, length, ◌==◌, slice_index_or}
+use Rattle.std.specs.Prelude.{ℕ, ◌+◌, ◌*◌, Bool, true, false, if◌then◌else◌, List, [], ◌∷◌, ◌++◌, map, length, ◌==◌, slice_index_or}
 use Rattle.gates.specs.Words.{bits, word}
 use Rattle.gates.specs.Kinds.{gate_value}
 use Rattle.gates.specs.declared.gate.Gate.{Gate}
 
 -- the value of net n in member a, where it would be x: fault 1 + 2 * n holds it at 0, fault 2 + 2 * n at 1
 abbrev pub held : ℕ → ℕ → Bool → Bool
-held a n x = cond (a == 1 + 2 * n) false (cond (a == 2 + 2 * n) true x)
+held a n x = if a == 1 + 2 * n then false else (if a == 2 + 2 * n then true else x)
 
 -- the values xs of the nets from n on, in member a
 abbrev pub held_from : ℕ → ℕ → List Bool → List Bool

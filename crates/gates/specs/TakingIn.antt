@@ -1,5 +1,5 @@
 -- Taking a gate list in: which are refused, and what the device means afterwards.
-use Rattle.std.specs.Prelude.{◌≡◌, ℕ, ◌+◌, ◌^◌, Bool, cond, not, ◌||◌, List, length, Some, None, Ok, Err, Option, Result, nat_lt}
+use Rattle.std.specs.Prelude.{◌≡◌, ℕ, ◌+◌, ◌^◌, Bool, if◌then◌else◌, not, ◌||◌, List, length, Some, None, Ok, Err, Option, Result, nat_lt}
 use Rattle.machine.specs.declared.refusal.Refusal.{Refusal}
 use Rattle.machine.specs.declared.refusal.Refusal.TheVariants.{OutsideDeviceRules}
 use Rattle.gates.specs.Rules.{net_count, gates_ordered, name_nets}
@@ -20,7 +20,7 @@ parts_outside pins reset gates loads outputs =
 -- why a gate list is refused, if it is
 abbrev pub gates_refusal : ℕ → ℕ → List Gate → List ℕ → List ℕ → Option Refusal
 gates_refusal pins reset gates loads outputs =
-    cond (counts_outside pins gates loads outputs || parts_outside pins reset gates loads outputs) (Some OutsideDeviceRules) None
+    if counts_outside pins gates loads outputs || parts_outside pins reset gates loads outputs then Some OutsideDeviceRules else None
 
 -- a gate list taken in: it is what the device means afterwards, or it is refused and the device is as it was
 abbrev pub TakenIn : ℕ → ℕ → List Gate → List ℕ → List ℕ → Gates → Gates → Result Unit Refusal → Type 0

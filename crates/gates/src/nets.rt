@@ -8,7 +8,7 @@ use crate::gate::Gate;
 // How many nets a gate list may have.
 pub(crate) const MOST_NETS: usize = 512;
 
-// The value of each net; those past the last net mean nothing.
+// The value of each net, in an array, as libraries use no heap; those past the last net mean nothing.
 #[derive(Drop)]
 pub(crate) struct Nets {
     values: [bool; MOST_NETS],

@@ -1,5 +1,5 @@
 -- What each layer makes of the devices below it.
-use Rattle.std.specs.Prelude.{ℕ, min, max, cond, ◌==◌, bit_and, bit_or}
+use Rattle.std.specs.Prelude.{ℕ, min, max, if◌then◌else◌, ◌==◌, bit_and, bit_or}
 use Rattle.machine.specs.Machines.{Machine, reset_of, step_of, within}
 
 -- only the outputs of the mask are seen
@@ -34,7 +34,7 @@ rivals m n = record {
   members = 2;
   letters = min m.letters n.letters;
   states = max m.states n.states;
-  reset = λ a. cond (a == 0) (reset_of m 0) (reset_of n 0);
-  next = λ a q l. cond (a == 0) (step_of m 0 q l).0 (step_of n 0 q l).0;
-  output = λ a q l. cond (a == 0) (step_of m 0 q l).1 (step_of n 0 q l).1;
+  reset = λ a. if a == 0 then reset_of m 0 else reset_of n 0;
+  next = λ a q l. if a == 0 then (step_of m 0 q l).0 else (step_of n 0 q l).0;
+  output = λ a q l. if a == 0 then (step_of m 0 q l).1 else (step_of n 0 q l).1;
 }

@@ -1,5 +1,5 @@
 -- What a device means: a family of Mealy machines over common letters and states.
-use Rattle.std.specs.Prelude.{ℕ, ◌<◌, ◌≤◌, cond, nat_lt}
+use Rattle.std.specs.Prelude.{ℕ, ◌<◌, ◌≤◌, if◌then◌else◌, nat_lt}
 
 -- how many members, letters and states there are; each member's reset; where a member goes from a state at a letter, and what it puts out
 pub record Machine : Type 0 where
@@ -23,7 +23,7 @@ pub record Sound (m : Machine) : Type 0 where
 
 -- a number out of range is read as 0
 abbrev pub within : ℕ → ℕ → ℕ
-within n x = cond (nat_lt x n) x 0
+within n x = if nat_lt x n then x else 0
 
 -- the reset state of a member
 abbrev pub reset_of : Machine → ℕ → ℕ

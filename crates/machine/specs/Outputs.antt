@@ -1,5 +1,5 @@
 -- The outputs of a member along a sequence, and when two members are told apart by them.
-use Rattle.std.specs.Prelude.{◌≡◌, ℕ, ◌+◌, ◌<◌, Bool, true, false, cond, not, List, [], ◌∷◌, length, Some, None, Option, ◌==◌, slice_index}
+use Rattle.std.specs.Prelude.{◌≡◌, ℕ, ◌+◌, ◌<◌, Bool, true, false, if◌then◌else◌, not, List, [], ◌∷◌, length, Some, None, Option, ◌==◌, slice_index}
 use Rattle.machine.specs.Machines.{Machine, reset_of, step_of}
 use Rattle.machine.specs.Sequences.{Letters, AtMost}
 
@@ -24,7 +24,7 @@ differ_at m a b s k = differ (slice_index (outputs m a s) k) (slice_index (outpu
 abbrev pub difference_from : ℕ → List ℕ → List ℕ → Option ℕ
 difference_from k [] ys = None
 difference_from k (x ∷ xs) [] = None
-difference_from k (x ∷ xs) (y ∷ ys) = cond (differ x y) (Some k) (difference_from (k + 1) xs ys)
+difference_from k (x ∷ xs) (y ∷ ys) = if differ x y then Some k else difference_from (k + 1) xs ys
 
 -- the first place, counted from 0, at which the outputs of a and b along s differ
 abbrev pub first_difference : Machine → ℕ → ℕ → List ℕ → Option ℕ

@@ -12,6 +12,9 @@ use layers::Rivals;
 use machine::{Pair, Refusal};
 use search::{Found, SearchError, Visit};
 
+// As many letters as a least sequence can have: one for each pair of states.
+const MOST_LETTERS: usize = 65536;
+
 // Two state tables that are set side by side.
 #[derive(Clone, Copy)]
 pub(crate) struct Tables<'g, 'f> {
@@ -51,7 +54,8 @@ impl Tables<'_, '_> {
     ) -> Result<usize, Refusal>
         ensures { Reported (Compared (machines_of self.now) self.now.good.shape.inputs (names_held self.now) (length visits.old) (length marks.old)) report.old result report.new }
     {
-        let mut letters = [0u8; 65536];
+        // An array, as libraries use no heap.
+        let mut letters = [0; MOST_LETTERS];
         match self.search(visits, marks, &mut letters) {
             Ok(Found::Goal { length }) => {
                 let sequence = Sequence {

@@ -17,6 +17,7 @@ pub enum Found {
 }
 
 // Searches for the least sequence that meets the walk's goal. No answer depends on what the work slices held.
+// Work slices are two parameters, here and in every call: a struct of them would have each contract say too that the caller's slices are still inside.
 pub fn shortest<W: Walk>(
     walk: &W,
     visits: &mut [Visit<W::Position>],

@@ -1,6 +1,6 @@
 ghost use Rattle.std.specs.Prelude.{◌≡◌, ℕ, ◌+◌, ◌<◌, ◌≤◌, length, IfSome, IfNone, OnSome, Some, slice_get, slice_set};
 
-// First in, first out, over a lent slice. What was taken out stays readable in its place.
+// First in, first out, over a lent slice, as libraries use no heap. What was taken out stays readable in its place.
 #[derive(Drop)]
 pub(crate) struct Worklist<'a, V> {
     pub(crate) items: &'a mut [V],
