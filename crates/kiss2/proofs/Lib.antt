@@ -1,4 +1,5 @@
 pub mod Alls
+pub mod Products
 pub mod Scans
 pub mod Lining
 pub mod Numbers

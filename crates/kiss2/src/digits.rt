@@ -48,6 +48,7 @@ pub(crate) fn longer(number: usize, bit: u8) -> usize
 }
 
 // The output word that up to 32 digits write, the leftmost as the highest bit.
+// By a loop: the closure of a `fold` does not know how many digits came before, which is what keeps the word small.
 pub(crate) fn output_word(digits: &[u8]) -> u32
     requires { length digits.now ≤ 32 }
     ensures { result ≡ output_word digits.now }

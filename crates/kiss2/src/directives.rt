@@ -22,6 +22,7 @@ fn is_count(bytes: &[u8]) -> bool
 }
 
 // The number that up to five digits write.
+// By a loop, as `output_word`.
 fn decimal(bytes: &[u8]) -> u32
     requires { is_count bytes.now ≡ true }
     ensures { result ≡ decimal bytes.now }

@@ -12,6 +12,7 @@ pub struct Shape {
 
 impl Shape {
     // How many cells the table has: one for each state and letter. A number past `usize` is read as the largest.
+    #[tactic(auto, using(crate::proofs::Products::cut_product))]
     pub fn cell_count(&self) -> usize
         ensures { result ≡ min (self.now.states * 2 ^ self.now.inputs) (2 ^ 64 - 1) }
     {
