@@ -11,7 +11,7 @@ mod taking_in;
 // A device given by a gate list. The nets are numbered: first the pins, then the flip-flops, then the gates.
 // A flip-flop and an output each name the net that they read. Bits are counted from 0: pins give those of a letter, flip-flops those of a state, outputs those of a word.
 // Fault 1 + 2 * n + v is net n stuck at v.
-#[derive(Clone, Copy)]
+#[derive(Clone, Copy, PartialEq, Eq, Hash, Debug)]
 pub struct Gates<'a> {
     gates: &'a [Gate],
     loads: &'a [u16],

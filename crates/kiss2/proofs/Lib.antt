@@ -1,4 +1,3 @@
-pub mod Alls
 pub mod Products
 pub mod Scans
 pub mod Lining

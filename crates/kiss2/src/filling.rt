@@ -12,6 +12,7 @@ use machine::Refusal;
 pub(crate) const CELLS: usize = 16384;
 
 // A table being filled: its cells, which of them have been given, and the line of the first row at odds with one before it.
+// The flags stand beside the cells, since these are the caller's slice, and in an array, as libraries use no heap.
 #[derive(Drop)]
 pub(crate) struct Filling<'a> {
     pub(crate) cells: &'a mut [Cell],

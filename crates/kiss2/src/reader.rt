@@ -146,6 +146,7 @@ impl Reader {
     }
 
     // Reads the lines one after another, up to the first that is refused.
+    // A loop, since words have places in the text, and the pieces of a split do not say where they stand.
     pub(crate) fn read_lines(
         &mut self,
         names: &mut Names,

@@ -5,7 +5,7 @@ use machine::Refusal;
 use std::error::Error;
 use std::fmt;
 
-// Why a text was refused, and at which line, counted from 1; 0 where no line is at fault.
+// Why a text was refused, and at which line, counted from 1; 0 where no line is at fault, since that is the number that the report prints there.
 #[derive(Clone, Copy, PartialEq, Eq, Debug)]
 pub struct Refused {
     pub refusal: Refusal,

@@ -6,7 +6,7 @@ ghost use Rattle.layers.specs.Soundness.{observed_sound};
 use machine::Device;
 
 // A device of which only the outputs of a mask are seen.
-#[derive(Clone, Copy)]
+#[derive(Clone, Copy, PartialEq, Eq, Hash, Debug)]
 pub struct Observed<D> {
     below: D,
     mask: u32,

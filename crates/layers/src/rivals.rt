@@ -6,7 +6,7 @@ ghost use Rattle.layers.specs.Soundness.{rivals_sound};
 use machine::{Device, within};
 
 // The good machines of two devices, side by side: member 0 is that of the first, member 1 that of the second.
-#[derive(Clone, Copy)]
+#[derive(Clone, Copy, PartialEq, Eq, Hash, Debug)]
 pub struct Rivals<A, B> {
     first: A,
     second: B,

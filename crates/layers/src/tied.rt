@@ -6,7 +6,7 @@ ghost use Rattle.layers.specs.Soundness.{tied_sound};
 use machine::{Device, within};
 
 // A device with pins tied: only the pins of keep follow the letter, and those of the value are 1.
-#[derive(Clone, Copy)]
+#[derive(Clone, Copy, PartialEq, Eq, Hash, Debug)]
 pub struct Tied<D> {
     below: D,
     keep: u8,

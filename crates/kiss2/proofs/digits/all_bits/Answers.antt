@@ -1,9 +1,0 @@
-use Rattle.std.proofs.Common.{rules, tests, ◌∙◌}
-use Rattle.std.proofs.lemmas.Iterator.{YieldsList-from_slice}
-use Rattle.std.proofs.lemmas.Iterator.Search.{all_from_yields_List}
-use Rattle.kiss2.specs.Rows.{is_bit}
-use Rattle.kiss2.proofs.Alls.{list_all_is}
-use Rattle.kiss2.proofs.digits.all_bits.Goals as goal
-
-pub returns : goal.returns
-returns c = all_from_yields_List is_bit _ _ _ c.all.ensures.ran (YieldsList-from_slice c.args.bytes.now cc) (λ x b q k. search (rules, tests)) ∙ list_all_is is_bit c.args.bytes.now
