@@ -67,7 +67,7 @@ impl<'a, D: Device> Checker<'a, D> {
     }
 }
 
-// What is wrong with a list of pairs for two members, or nothing: then it is closed, and shows that they are equivalent.
+// What is wrong with the pairs that are listed, or nothing: then the list is closed, and shows that the two members are equivalent.
 pub fn check<D: Device>(
     device: &D,
     first: u16,
