@@ -7,6 +7,7 @@ use machine::{Device, Pair, Refusal};
 use search::{Found, SearchError, Visit, shortest};
 
 // Searches the product machine for the least sequence that distinguishes the members.
+// The generic search is `shortest`: this says what its answer means for two members, and `search_states` what it means for one.
 fn search_product<D: Device>(
     product: &Product<D>,
     visits: &mut [Visit<Pair>],
