@@ -1,9 +1,6 @@
 -- A pass over gates that are in order.
-use Rattle.std.proofs.Common.{◌≡◌, ℕ, zero, suc, ◌+◌, ◌<◌, Bool, true, List, [], ◌∷◌, length, get_or, drop, set, sym, ap, ◌∙◌, subst, add_assoc, arith}
-use Rattle.std.proofs.lemmas.List.{drop_more}
+use Rattle.std.proofs.Common.{◌≡◌, ℕ, zero, suc, ◌+◌, ◌<◌, true, List, [], ◌∷◌, length, get_or, subst, arith}
 use Rattle.std.proofs.lemmas.Bool.{and_parts, ltb-true}
-use Rattle.gates.specs.Nets.{gate_at}
-use Rattle.gates.specs.Passes.{passed}
 use Rattle.gates.specs.Rules.{gate_ordered, gates_ordered}
 use Rattle.gates.specs.declared.gate.Gate.{Gate}
 use Rattle.gates.specs.declared.gate.Kind.TheVariants.{And}
@@ -29,11 +26,3 @@ reads_lower_at n (g ∷ gs) zero h o =
 reads_lower_at n (g ∷ gs) (suc i) h o =
     let e : n + 1 + i ≡ n + suc i = omega arith in
     subst (λ (m : ℕ). ReadsBelow m (get_or gs i no_gate)) e (reads_lower_at (n + 1) gs i (omega arith) (and_parts (gate_ordered n g) (gates_ordered (n + 1) gs) o).1)
-
--- one more gate is evaluated
-pub passed_more : (nets : List Bool) (n : ℕ) (gs : List Gate) (i : ℕ) → i < length gs →
-    passed (set nets (n + i) (gate_at nets (get_or gs i no_gate))) (n + (i + 1)) (drop (i + 1) gs) ≡ passed nets (n + i) (drop i gs)
-passed_more nets n gs i h =
-    let on : List Bool = set nets (n + i) (gate_at nets (get_or gs i no_gate)) in
-    ap (λ (m : ℕ). passed on m (drop (i + 1) gs)) (sym (add_assoc n i 1))
-    ∙ ap (λ (rest : List Gate). passed nets (n + i) rest) (sym (drop_more gs i no_gate h))
