@@ -1,4 +1,5 @@
 pub mod Books
+pub mod Marks
 pub mod Standings
 pub mod Rules
 pub mod Ledgers

@@ -10,6 +10,11 @@ pub enum Mark {
 }
 
 impl fmt::Display for Mark {
+    ghost use Rattle.std.specs.Prelude.{Some};
+    ghost use Rattle.campaign.specs.Marks.{mark_text};
+
+    ghost output = { λ mark. Some (mark_text mark) };
+
     fn fmt<W: fmt::Write>(&self, f: &mut fmt::Formatter<W>) -> fmt::Result {
         match self {
             Mark::Open => f.write_str("open"),

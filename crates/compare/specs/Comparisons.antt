@@ -1,5 +1,5 @@
 -- What a comparison answers.
-use Rattle.std.specs.Prelude.{◌≡◌, ℕ, ◌*◌, ◌<◌, ◌≤◌, true, ◌⊎◌, List, ◌++◌, map, length, take, drop, None, Ok, Err, Result}
+use Rattle.std.specs.Prelude.{◌≡◌, ℕ, ◌*◌, ◌<◌, ◌≤◌, true, ◌⊎◌, List, map, length, take, None, Ok, Err, Result}
 use Rattle.machine.specs.Machines.{Machine}
 use Rattle.machine.specs.Outputs.{Equivalent, LeastDistinguishing}
 use Rattle.machine.specs.Products.{ReachablePairs}
@@ -41,11 +41,6 @@ FewLetters m a b (Ok (Goal n)) = n ≤ m.states * m.states
 FewLetters m a b (Ok (Exhausted n)) = Unit {0}
 FewLetters m a b (Err error.WorkTooShort) = Unit {0}
 FewLetters m a b (Err error.AnswerTooShort) = (s : List ℕ) → LeastDistinguishing m a b s → length s ≤ m.states * m.states
-
--- the positions of visits are written into the first entries of a slice, or do not fit
-abbrev pub Listed : {P : Type 0} → List (Visit P) → List P → Result Unit Refusal → List P → Type 0
-Listed xs pairs (Ok _) pairs' = (length xs ≤ length pairs) × (pairs' ≡ positions xs ++ drop (length xs) pairs)
-Listed xs pairs (Err r) pairs' = (r ≡ AnswerTooShort) × (length pairs < length xs) × (pairs' ≡ pairs)
 
 -- the least distinguishing sequence does not fit the letter slice
 abbrev pub ShortLetters : Machine → ℕ → ℕ → List ℕ → Type 0

@@ -3,7 +3,7 @@ ghost use Rattle.compare.specs.Comparisons.{Members};
 ghost use Rattle.compare.specs.Soundness.{pair_sound};
 ghost use Rattle.compare.specs.Walks.{pair_graph, pair_number, PairInside};
 
-use machine::{Device, Pair, Refusal};
+use machine::{Device, Pair, Refusal, outputs_differ};
 use search::Walk;
 
 // The number of a pair of states: pairs of states below the count have different numbers.
@@ -74,7 +74,7 @@ impl<'a, D: Device> Walk for Product<'a, D> {
     fn step(&self, position: Pair, letter: u8) -> Option<Pair> {
         let (first, x) = self.device.step(self.first, position.first, letter);
         let (second, y) = self.device.step(self.second, position.second, letter);
-        if x != y {
+        if outputs_differ(x, y) {
             None
         } else {
             Some(Pair { first, second })

@@ -12,3 +12,4 @@ pub mod Progressing
 pub mod Readers
 pub mod Concluding
 pub mod Sides
+pub mod Refusals

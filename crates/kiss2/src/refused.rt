@@ -22,6 +22,11 @@ impl From<Refusal> for Refused {
 }
 
 impl fmt::Display for Refused {
+    ghost use Rattle.std.specs.Prelude.{Some};
+    ghost use Rattle.kiss2.specs.Refusals.{refused_text};
+
+    ghost output = { λ refused. Some (refused_text refused) };
+
     fn fmt<W: fmt::Write>(&self, f: &mut fmt::Formatter<W>) -> fmt::Result {
         let number = self.refusal.number();
         let line = self.line;

@@ -2,12 +2,14 @@
 #![tactic(auto)]
 
 mod device;
+mod output;
 mod pair;
 mod pins;
 mod range;
 mod refusal;
 
 pub use device::Device;
+pub use output::outputs_differ;
 pub use pair::Pair;
 pub use pins::Pins;
 pub use range::within;

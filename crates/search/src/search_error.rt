@@ -12,6 +12,11 @@ pub enum SearchError {
 }
 
 impl fmt::Display for SearchError {
+    ghost use Rattle.std.specs.Prelude.{Some};
+    ghost use Rattle.search.specs.Errors.{error_text};
+
+    ghost output = { λ error. Some (error_text error) };
+
     fn fmt<W: fmt::Write>(&self, f: &mut fmt::Formatter<W>) -> fmt::Result {
         match self {
             SearchError::WorkTooShort => f.write_str("a work slice is too short"),
