@@ -1,5 +1,6 @@
 -- A search that writes behind the used letters of a ledger.
-use Rattle.std.proofs.Common.{◌≡◌, ℕ, ◌-◌, ◌≤◌, List, ◌++◌, length, take, drop, Ok, Err, Result, sym, ap, ◌∙◌, arith}
+use Rattle.std.proofs.Common.{◌≡◌, ℕ, ◌-◌, ◌≤◌, List, ◌++◌, length, take, drop, Ok, Err, Result, Option, Some, None, sym, ap, ◌∙◌, arith}
+use Rattle.std.specs.Option.{unwrap_or}
 use borrow.Rule.Slice.PartMut.{put_mid}
 use Rattle.std.proofs.lemmas.List.{length-take-le, length-drop, take_at, drop_at, append_assoc}
 use Rattle.std.proofs.lemmas.Slice.{take-put_mid_below}
@@ -23,8 +24,19 @@ written : (start n : ℕ) (xs s rest : List ℕ) → start ≤ length xs → len
 written start n xs s rest h size =
     ap (take n) (drop_at (take start xs) _ start (length-take-le start xs h) ∙ append_assoc s rest _) ∙ take_at s _ n size
 
+-- where a search writes: where the next sequence goes, and past all letters where there is no such place
+pub record Start (l : Ledger) (start : ℕ) : Type 0 where
+  pub numbered : HasNumber (book l).kept → start ≡ l.used
+  pub full : 256 ≤ length (book l).kept → start ≡ 16384
+  pub behind : l.used ≤ start
+  pub within : start ≤ 16384
+
+pub start_of : (l : Ledger) (p : Option ℕ) (start : ℕ) → start ≡ unwrap_or p 16384 → NextPlace l p → Start l start
+start_of l (Some place) start e (number, is) = record { numbered = λ h. e ∙ is; full = λ h. omega arith; behind = omega arith; within = let few = l.few in omega arith }
+start_of l None start e given = record { numbered = λ h. omega arith; full = λ h. e; behind = let few = l.few in omega arith; within = omega arith }
+
 module _ (m : Machine) (before after : Ledger) (f v w start : ℕ) (new : List ℕ) (full : length before.letters ≡ 16384)
-    (next : NextPlace before start)
+    (next : Start before start)
     (letters : after.letters ≡ put_mid start (16384 - start) before.letters new)
     (marks : after.marks ≡ before.marks) (kept : after.kept ≡ before.kept) (used : after.used ≡ before.used) where
   same : book after ≡ book before

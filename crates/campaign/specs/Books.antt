@@ -1,5 +1,6 @@
 -- What a ledger says: the marks of the faults, and the kept sequences with their origins.
 use Rattle.std.specs.Prelude.{ℕ, ◌-◌, ◌<◌, ◌≤◌, List, [], map, length, take, drop, slice_index_or, sum_by}
+use Rattle.std.specs.Option.{unwrap_or}
 use Rattle.campaign.specs.declared.ledger.Kept.{Kept}
 use Rattle.campaign.specs.declared.ledger.Ledger.{Ledger}
 use Rattle.campaign.specs.declared.mark.Mark.{Mark}
@@ -41,7 +42,7 @@ part start n letters = take n (drop start letters)
 
 -- the kept sequence that lies at these letters
 abbrev pub entry_of : List ℕ → Kept → Entry
-entry_of letters k = entry (part k.start k.length letters) k.origin
+entry_of letters k = entry (part k.start k.length letters) (unwrap_or k.origin 0)
 
 -- what a ledger says
 abbrev pub book : Ledger → Book

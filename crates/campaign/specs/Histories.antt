@@ -1,5 +1,5 @@
 -- Every history of calls is told truly.
-use Rattle.std.specs.Prelude.{◌≡◌, ℕ, ◌+◌, ◌≤◌, true, ◌⊎◌, ◌↔◌, List, [], ◌∷◌, ◌++◌, map, length, Some, None, Ok, Err, Option, Result, ◌≢◌}
+use Rattle.std.specs.Prelude.{◌≡◌, ℕ, ◌≤◌, true, ◌⊎◌, ◌↔◌, List, [], ◌∷◌, ◌++◌, map, length, Some, None, Ok, Err, Option, Result, ◌≢◌}
 use Rattle.machine.specs.Machines.{Machine}
 use Rattle.machine.specs.Outputs.{Distinguishes, Equivalent, LeastDistinguishing}
 use Rattle.machine.specs.Sequences.{legal}
@@ -7,7 +7,7 @@ use Rattle.machine.specs.declared.refusal.Refusal.{Refusal}
 use Rattle.machine.specs.declared.refusal.Refusal.TheVariants.{NoSuchMember, FaultNotOpen}
 use Rattle.compare.specs.Comparisons.{PairWork}
 use Rattle.campaign.specs.Books.{Entry, entry, Book, Numbered, numbered}
-use Rattle.campaign.specs.Rules.{Fault, HasNumber, HasLetters, KeepingRefused, admission, Admitted, Judged, marked, ReadOut}
+use Rattle.campaign.specs.Rules.{Fault, HasNumber, HasLetters, KeepingRefused, admission, Admitted, Judged, marked, ReadOut, next_number}
 use Rattle.campaign.specs.declared.mark.Mark.{Mark}
 use Rattle.campaign.specs.declared.mark.Mark.TheVariants.{Open, Found, Undetectable}
 
@@ -112,7 +112,7 @@ TrueRefusal m cs es f v w r =
 -- what a judgement answers is true: undetectable where no sequence distinguishes the fault, the next number where the least sequence is kept
 abbrev pub TrueJudgement : Machine → List Call → List Entry → ℕ → ℕ → ℕ → Result (Option ℕ) Refusal → Type 0
 TrueJudgement m cs es f v w (Ok None) = Fault m f × (Settled m cs es f → ⊥) × PairWork m v w × Equivalent m 0 f
-TrueJudgement m cs es f v w (Ok (Some n)) = (n ≡ length es + 1) × ((s : List ℕ) × CallKeeps m cs es (judge f v w) s f)
+TrueJudgement m cs es f v w (Ok (Some n)) = (n ≡ next_number es) × ((s : List ℕ) × CallKeeps m cs es (judge f v w) s f)
 TrueJudgement m cs es f v w (Err r) = TrueRefusal m cs es f v w r
 
 -- what was kept for a fault distinguishes it, and whatever does has at least as many letters

@@ -33,12 +33,10 @@ pub record Appended (before : Ledger) (k : Kept) (after : Ledger) : Type 0 where
   pub marks : after.marks ≡ before.marks
   pub letters : after.letters ≡ before.letters
 
--- where the letters of the next sequence go: behind the used ones, and past all letters once all numbers are given
-pub record NextPlace (l : Ledger) (place : ℕ) : Type 0 where
-  pub numbered : HasNumber (book l).kept → place ≡ l.used
-  pub full : 256 ≤ length (book l).kept → place ≡ 16384
-  pub behind : l.used ≤ place
-  pub within : place ≤ 16384
+-- where the letters of the next sequence go: behind the used ones, unless all numbers are given
+abbrev pub NextPlace : Ledger → Option ℕ → Type 0
+NextPlace l (Some place) = HasNumber (book l).kept × (place ≡ l.used)
+NextPlace l None = 256 ≤ length (book l).kept
 
 -- every fault is graded by s under a number, and nothing else changes
 pub record Graded (m : Machine) (before : Ledger) (s : List ℕ) (number : ℕ) (after : Ledger) : Type 0 where

@@ -18,6 +18,10 @@ Fault m f = (0 < f) × (f < m.members)
 abbrev pub HasNumber : List Entry → Type 0
 HasNumber es = length es < 256
 
+-- the number that the next kept sequence gets
+abbrev pub next_number : List Entry → ℕ
+next_number es = length es + 1
+
 -- as many letters are left as the sequence has, of 16,384
 abbrev pub HasLetters : List Entry → List ℕ → Type 0
 HasLetters es s = letters_in es + length s ≤ 16384
@@ -40,7 +44,7 @@ graded m s n f Undetectable = Undetectable
 -- s is kept last, with an origin, and every fault is graded by it
 pub record Keeps (m : Machine) (before : Book) (s : List ℕ) (origin : ℕ) (after : Book) : Type 0 where
   pub kept : after.kept ≡ before.kept ++ entry s origin ∷ []
-  pub marks : (f : ℕ) → Fault m f → mark_of after f ≡ graded m s (length before.kept + 1) f (mark_of before f)
+  pub marks : (f : ℕ) → Fault m f → mark_of after f ≡ graded m s (next_number before.kept) f (mark_of before f)
 
 -- fault f is marked k, and nothing else changes
 pub record SetsMark (before : Book) (f : ℕ) (k : Mark) (after : Book) : Type 0 where
@@ -55,7 +59,7 @@ Settles before f after = SetsMark before f Undetectable after
 -- why a client's sequence is refused, or its number: the checks in their order
 abbrev pub admission : Machine → List Entry → List ℕ → Result ℕ Refusal
 admission m es s =
-    if legal m.letters s then (if nat_lt (length es) 256 then (if nat_le (letters_in es + length s) 16384 then Ok (length es + 1)
+    if legal m.letters s then (if nat_lt (length es) 256 then (if nat_le (letters_in es + length s) 16384 then Ok (next_number es)
     else Err LettersFull)
     else Err SequencesFull)
     else Err BadSequence
@@ -67,7 +71,7 @@ Admitted m before s (Err r) after = (admission m before.kept s ≡ Err r) × (af
 
 -- the least sequence that distinguishes fault f is kept, with the number n and the fault as its origin
 abbrev pub KeepsLeast : Machine → Book → ℕ → ℕ → Book → Type 0
-KeepsLeast m before f n after = (n ≡ length before.kept + 1) × ((s : List ℕ) × LeastDistinguishing m 0 f s × HasNumber before.kept × HasLetters before.kept s × Keeps m before s f after)
+KeepsLeast m before f n after = (n ≡ next_number before.kept) × ((s : List ℕ) × LeastDistinguishing m 0 f s × HasNumber before.kept × HasLetters before.kept s × Keeps m before s f after)
 
 -- why s finds no place behind the kept sequences: all numbers are given, or too few letters are left
 abbrev pub NoPlace : List Entry → List ℕ → Refusal → Type 0

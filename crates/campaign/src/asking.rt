@@ -40,6 +40,6 @@ impl Ledger {
     {
         let kept = self.look_up(n).ok_or(Refusal::NoSuchSequence)?;
         paste(buffer, place, self.sequence(kept))?;
-        Ok((kept.length, kept.origin))
+        Ok((kept.length, kept.origin.unwrap_or(0)))
     }
 }

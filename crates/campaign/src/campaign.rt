@@ -10,6 +10,7 @@ use search::Visit;
 use std::marker::Model;
 
 // A device with its fault list: where each fault stands, and the sequences that were kept.
+// The work is the ledger's methods', which are lent the device: what they write lies in the ledger alone, and so do the invariants that a write has to keep.
 #[derive(Drop)]
 pub struct Campaign<D> {
     device: D,
@@ -70,7 +71,7 @@ impl<D: Device> Campaign<D> {
         if !is_fault(&self.device, fault) {
             return Err(Refusal::NoSuchMember);
         }
-        Ok(self.ledger.marks[fault as usize])
+        Ok(self.ledger.marks[usize::from(fault)])
     }
 
     // Writes kept sequence n into the buffer from a place on, and nothing else: its length and origin.

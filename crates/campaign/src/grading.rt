@@ -28,7 +28,7 @@ impl Ledger {
         let mark = graded_mark(
             device,
             fault,
-            self.marks[fault as usize],
+            self.marks[usize::from(fault)],
             self.sequence(kept),
             number,
         );
@@ -36,6 +36,7 @@ impl Ledger {
     }
 
     // Grades every fault by a kept sequence.
+    // By number: the device is asked of each fault by it, and after a loop over `iter_mut` nothing would be known of the marks.
     pub(crate) fn grade<D: Device>(&mut self, device: &D, kept: Kept, number: u16)
         ensures { Graded (D.meaning device.now) self.old (part kept.start kept.length self.old.letters) number self.new }
     {

@@ -1,7 +1,8 @@
 ghost use Rattle.std.specs.Prelude.{◌≡◌, ◌+◌, ◌≤◌, ◌↔◌, IsTrue, length};
+ghost use Rattle.std.specs.Option.{unwrap_or};
 ghost use Rattle.campaign.specs.Books.{book, part};
 ghost use Rattle.campaign.specs.Ledgers.{LeastKept, SearchedInto};
-ghost use Rattle.campaign.specs.Rules.{Admitted, Fault, HasLetters, HasNumber, Judged, Keeps};
+ghost use Rattle.campaign.specs.Rules.{Admitted, Fault, HasLetters, HasNumber, Judged, Keeps, next_number};
 
 use super::ledger::{Kept, LETTERS, Ledger};
 use super::mark::Mark;
@@ -18,11 +19,11 @@ pub(crate) fn is_fault<D: Device>(device: &D, fault: u16) -> bool
 
 impl Ledger {
     // Keeps the next letters as a sequence, and grades every fault by it: its number.
-    fn keep<D: Device>(&mut self, device: &D, size: usize, origin: u16) -> u16
+    fn keep<D: Device>(&mut self, device: &D, size: usize, origin: Option<u16>) -> u16
         requires number { HasNumber (book self.old).kept }
         requires room { self.old.used + size ≤ LETTERS }
-        ensures number { result ≡ length (book self.old).kept + 1 }
-        ensures keeps { Keeps (D.meaning device.now) (book self.old) (part self.old.used size self.old.letters) origin (book self.new) }
+        ensures number { result ≡ next_number (book self.old).kept }
+        ensures keeps { Keeps (D.meaning device.now) (book self.old) (part self.old.used size self.old.letters) (unwrap_or origin 0) (book self.new) }
     {
         let next = Kept {
             start: self.used,
@@ -44,7 +45,8 @@ impl Ledger {
     ) -> Result<Found, SearchError>
         ensures { SearchedInto (D.meaning device.now) self.old fault (length visits.old) (length marks.old) result self.new }
     {
-        let start = self.next_place();
+        // The free letters, none once all numbers are given. No method lends them: a part of an array cannot be returned as `&mut` out of a struct with a ghost field.
+        let start = self.next_place().unwrap_or(LETTERS);
         search_pairs(device, 0, fault, visits, marks, &mut self.letters[start..])
     }
 
@@ -59,7 +61,7 @@ impl Ledger {
         ensures { LeastKept (D.meaning device.now) (book self.old) fault (length visits.old) (length marks.old) result (book self.new) }
     {
         match self.search(device, fault, visits, marks) {
-            Ok(Found::Goal { length }) => Ok(Some(self.keep(device, length, fault))),
+            Ok(Found::Goal { length }) => Ok(Some(self.keep(device, length, Some(fault)))),
             Ok(Found::Exhausted { .. }) => Ok(None),
             Err(SearchError::WorkTooShort) => Err(Refusal::WorkTooShort),
             Err(SearchError::AnswerTooShort) if self.is_full() => Err(Refusal::SequencesFull),
@@ -80,7 +82,7 @@ impl Ledger {
         if !is_fault(device, fault) {
             return Err(Refusal::NoSuchMember);
         }
-        let Mark::Open = self.marks[fault as usize] else {
+        let Mark::Open = self.marks[usize::from(fault)] else {
             return Err(Refusal::FaultNotOpen);
         };
         let number = self.keep_least(device, fault, visits, marks)?;
@@ -94,11 +96,11 @@ impl Ledger {
     fn keep_client<D: Device>(&mut self, device: &D, sequence: &[u8]) -> u16
         requires number { HasNumber (book self.old).kept }
         requires room { HasLetters (book self.old).kept sequence.now }
-        ensures number { result ≡ length (book self.old).kept + 1 }
+        ensures number { result ≡ next_number (book self.old).kept }
         ensures keeps { Keeps (D.meaning device.now) (book self.old) sequence.now 0 (book self.new) }
     {
         self.write(sequence);
-        self.keep(device, sequence.len(), 0)
+        self.keep(device, sequence.len(), None)
     }
 
     // Keeps a client's sequence, where it is legal and fits: its number.

@@ -11,13 +11,12 @@ pub(crate) const LETTERS: usize = 16384;
 
 pub(crate) const MEMBERS: usize = 1025;
 
-// Where a kept sequence lies among the letters, and the fault that it was found for.
-// The origin is a plain number, 0 for a client's sequence, since that is what the project's rules have clients read.
+// Where a kept sequence lies among the letters, and the fault that it was found for, if a client did not bring it.
 #[derive(Clone, Copy, PartialEq, Eq, Debug)]
 pub(crate) struct Kept {
     pub(crate) start: usize,
     pub(crate) length: usize,
-    pub(crate) origin: u16,
+    pub(crate) origin: Option<u16>,
     ghost within: { start + length ≤ LETTERS },
 }
 
@@ -27,7 +26,7 @@ impl Default for Kept {
         Kept {
             start: 0,
             length: 0,
-            origin: 0,
+            origin: None,
         }
     }
 }
@@ -55,7 +54,7 @@ fn settle(mark: &mut Mark, to: Mark)
 impl Ledger {
     ghost use Rattle.campaign.specs.Books.{book, letters_in, part};
     ghost use Rattle.campaign.specs.Ledgers.{Appended, NextPlace, Remarked};
-    ghost use Rattle.campaign.specs.Rules.{Fresh, HasLetters, HasNumber, SetsMark};
+    ghost use Rattle.campaign.specs.Rules.{Fresh, HasLetters, HasNumber, SetsMark, next_number};
 
     // Every fault open, nothing kept.
     pub(crate) fn new() -> Ledger
@@ -74,7 +73,7 @@ impl Ledger {
         ensures ledger { Remarked self.old fault to self.new }
         ensures book { SetsMark (book self.old) fault to (book self.new) }
     {
-        settle(&mut self.marks[fault as usize], to);
+        settle(&mut self.marks[usize::from(fault)], to);
     }
 
     // Whether all numbers are given.
@@ -84,11 +83,15 @@ impl Ledger {
         self.kept.is_full()
     }
 
-    // Where the letters of the next sequence go: behind the used ones, and past all letters once all numbers are given.
-    pub(crate) fn next_place(&self) -> usize
+    // Where the letters of the next sequence go: behind the used ones, unless all numbers are given.
+    pub(crate) fn next_place(&self) -> Option<usize>
         ensures { NextPlace self.now result }
     {
-        if self.is_full() { LETTERS } else { self.used }
+        if self.is_full() {
+            None
+        } else {
+            Some(self.used)
+        }
     }
 
     // Whether as many letters are left.
@@ -114,7 +117,7 @@ impl Ledger {
     pub(crate) fn append(&mut self, next: Kept) -> u16
         requires number { HasNumber (book self.old).kept }
         requires next { next.start ≡ self.old.used }
-        ensures number { result ≡ length (book self.old).kept + 1 }
+        ensures number { result ≡ next_number (book self.old).kept }
         ensures appended { Appended self.old next self.new }
     {
         self.kept.push(next);

@@ -45,7 +45,7 @@ fn write_pairs(visits: &[Visit<Pair>], pairs: &mut [Pair])
     requires { length visits.now ≤ length pairs.old }
     ensures { pairs.new ≡ positions visits.now ++ drop (length visits.now) pairs.old }
 {
-    // By index: after a loop over `iter_mut` nothing is known of the elements.
+    // By index: a `zip` of `iter_mut` with the visits would be an adapter, behind which nothing is known of the elements.
     for (i, visit) in visits.iter().enumerate() {
         pairs[i] = visit.position;
     }

@@ -10,7 +10,7 @@ use search::Walk;
 pub(crate) fn pair_number(states: u16, pair: Pair) -> usize
     ensures { result ≡ pair_number states pair }
 {
-    pair.first as usize * states as usize + pair.second as usize
+    usize::from(pair.first) * usize::from(states) + usize::from(pair.second)
 }
 
 // The product machine of two members, from their resets: a position is a pair of states, and unequal outputs are the goal.
@@ -63,7 +63,7 @@ impl<'a, D: Device> Walk for Product<'a, D> {
     }
 
     fn count(&self) -> usize {
-        let states = self.device.states() as usize;
+        let states = usize::from(self.device.states());
         states * states
     }
 

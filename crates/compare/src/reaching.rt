@@ -38,7 +38,8 @@ pub fn reach<D: Device>(
     if wanted >= states {
         return Err(Refusal::OutOfRange);
     }
-    if visits.len() < states as usize || marks.len() < states as usize {
+    let count = usize::from(states);
+    if visits.len() < count || marks.len() < count {
         return Err(Refusal::WorkTooShort);
     }
     if device.reset(member) == wanted {

@@ -11,7 +11,7 @@ use search::Walk;
 // The most letters that a sequence may have.
 const MOST_LETTERS: usize = 16384;
 
-// Whether each letter is below the count.
+// Whether each letter is below the count. A function: with the chain in `is_legal` the check does not find its answer.
 fn letters_below(count: u8, sequence: &[u8]) -> bool
     ensures { result ≡ all (λ l. nat_lt l count) sequence.now }
 {
@@ -32,6 +32,7 @@ fn difference<D: Device>(product: &Product<D>, sequence: &[u8]) -> Option<usize>
     ensures { result ≡ first_difference (D.meaning product.now.device.now) product.now.first product.now.second sequence.now }
 {
     let mut pair = product.start();
+    // A loop: `try_fold` over the steps would carry the pair and lose the place.
     for (place, letter) in sequence.iter().enumerate() {
         match product.step(pair, *letter) {
             None => return Some(place),

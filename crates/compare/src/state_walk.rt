@@ -31,11 +31,11 @@ impl<'a, D: Device> Walk for StateWalk<'a, D> {
     }
 
     fn count(&self) -> usize {
-        self.device.states() as usize
+        usize::from(self.device.states())
     }
 
     fn number(&self, position: u16) -> usize {
-        position as usize
+        usize::from(position)
     }
 
     fn step(&self, position: u16, letter: u8) -> Option<u16> {

@@ -22,7 +22,7 @@ const POSITIONS: usize = 1024;
 // How many bytes the report may have.
 const BYTES: usize = 40000;
 
-// The bytes of a file; none where it cannot be read.
+// The bytes of a file. One that cannot be read counts as empty, as the project's rules have it: the report then says what is wrong with an empty text.
 fn text_of(rt: &(impl Files + AllocGlobal), path: &str) -> Vec<u8> {
     fs::read(rt, path).unwrap_or_else(|_| Vec::new(rt.alloc()))
 }

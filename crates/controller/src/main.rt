@@ -13,7 +13,7 @@ const STATES: usize = 4;
 const PAIRS: usize = 16;
 
 fn name(state: u16) -> &'static str {
-    NAMES.get(state as usize).copied().unwrap_or("?")
+    NAMES.get(usize::from(state)).copied().unwrap_or("?")
 }
 
 fn show_pairs(rt: &impl Print, pairs: &[Pair]) -> io::Result<()> {

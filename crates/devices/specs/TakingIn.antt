@@ -20,6 +20,11 @@ table_refusal pins states reset cells altered =
     else (if not (cells_inside states (take (states * 2 ^ pins) cells)) then Some OutsideDeviceRules
     else (if nat_lt 1024 (length altered) || not (altered_inside (2 ^ pins) states altered) then Some BadAlteredCell else None)))
 
+-- a table made: it is what the device means, or it is refused
+abbrev pub Made : ℕ → ℕ → ℕ → List Cell → List AlteredCell → Result Table Refusal → Type 0
+Made pins states reset cells altered (Ok table) = (table_refusal pins states reset cells altered ≡ None) × (machine_of table ≡ table_machine (2 ^ pins) states reset cells altered)
+Made pins states reset cells altered (Err r) = table_refusal pins states reset cells altered ≡ Some r
+
 -- a table taken in: it is what the device means afterwards, or it is refused and the device is as it was
 abbrev pub TakenIn : ℕ → ℕ → ℕ → List Cell → List AlteredCell → Table → Table → Result Unit Refusal → Type 0
 TakenIn pins states reset cells altered before after (Ok _) = (table_refusal pins states reset cells altered ≡ None) × (machine_of after ≡ table_machine (2 ^ pins) states reset cells altered)

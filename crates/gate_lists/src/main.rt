@@ -87,7 +87,7 @@ fn adder_table(cells: &[Cell]) -> Result<Table<'_>, Refusal> {
     Ok(table)
 }
 
-// Where the answers are printed, and the memory that the searches work in.
+// Where the answers are printed, and the memory that the searches work in. It is on the heap, so no library lends it.
 #[derive(Drop)]
 struct Bench<'a, R> {
     rt: &'a R,
@@ -122,13 +122,17 @@ impl<'a, R: Print + AllocGlobal> Bench<'a, R> {
                 Err(_) => {}
             }
         }
-        let found = (1..members)
-            .filter(|fault| matches!(campaign.mark(*fault), Ok(Mark::Found(_))))
-            .count();
-        let undetectable = (1..members)
-            .filter(|fault| matches!(campaign.mark(*fault), Ok(Mark::Undetectable)))
-            .count();
+        let found = count(&campaign, members, |mark| matches!(mark, Mark::Found(_)));
+        let undetectable = count(&campaign, members, |mark| mark == Mark::Undetectable);
         println!(rt; "  found {found}, undetectable {undetectable}; letters {letters}")
+    }
+
+    // Runs the campaign of a gate list, if it was taken in.
+    fn run_gates(&mut self, name: &str, device: Result<Gates, Refusal>) -> io::Result<()> {
+        match device {
+            Ok(device) => self.run(name, device),
+            Err(refusal) => println!(self.rt; "{refusal}"),
+        }
     }
 
     // Compares the two members of a pile and prints the verdict.
@@ -159,13 +163,16 @@ impl<'a, R: Print + AllocGlobal> Bench<'a, R> {
     }
 
     // The adder's table beside its gate list: equivalent, and with a wrong cell not, unless the pins or the outputs hide it.
-    fn show_piles(&mut self) -> anyhow::Result<()> {
+    // A table or list that is refused would leave the idle device.
+    fn show_piles(&mut self) -> io::Result<()> {
         let gates = adder();
-        let gates = taken_in(2, &gates, &[7], &[4])?;
+        let gates = taken_in(2, &gates, &[7], &[4]).unwrap_or(Gates::idle());
         let mut wrong_cells = ADDER_CELLS;
         wrong_cells[7].output = 0;
-        let same = Rivals::new(adder_table(&ADDER_CELLS)?, gates);
-        let wrong = Rivals::new(adder_table(&wrong_cells)?, gates);
+        let table = adder_table(&ADDER_CELLS).unwrap_or(Table::idle());
+        let wrong_table = adder_table(&wrong_cells).unwrap_or(Table::idle());
+        let same = Rivals::new(table, gates);
+        let wrong = Rivals::new(wrong_table, gates);
         let pile = Observed::new(Tied::new(wrong, 3, 0), 1);
         self.show_pile("table and gates", &same)?;
         self.show_pile("wrong table and gates", &wrong)?;
@@ -174,9 +181,17 @@ impl<'a, R: Print + AllocGlobal> Bench<'a, R> {
         self.show_pile("the same, nothing seen", &Observed::new(wrong, 0))?;
         self.show_pile("a pile of three", &pile)?;
         self.show_pile("controller, nothing seen", &Observed::new(controller(), 0))?;
-        self.run("campaign over a pile", pile)?;
-        Ok(())
+        self.run("campaign over a pile", pile)
     }
+}
+
+// How many faults have a mark of a kind.
+fn count<D: Device, F: Fn(Mark) -> bool>(campaign: &Campaign<D>, members: u16, is_kind: F) -> usize
+    requires { F.IsAlwaysCallable is_kind }
+{
+    (1..members)
+        .filter(|fault| matches!(campaign.mark(*fault), Ok(mark) if is_kind(mark)))
+        .count()
 }
 
 // Prints a kept sequence: how many letters it has.
@@ -187,13 +202,12 @@ fn show_sequence<D: Device>(
     number: u16,
 ) -> io::Result<usize> {
     let mut buffer = [0; 256];
-    let length = campaign
-        .read_out(number, &mut buffer, 0)
-        .map_or(0, |(length, _origin)| length);
-    println!(rt;
-        "  fault {fault}: sequence {number}:{}",
-        Letters(&buffer[..length])
-    )?;
+    print!(rt; "  fault {fault}: sequence {number}:")?;
+    let Ok((length, _origin)) = campaign.read_out(number, &mut buffer, 0) else {
+        println!(rt; "")?;
+        return Ok(0);
+    };
+    println!(rt; "{}", Letters(&buffer[..length]))?;
     Ok(length)
 }
 
@@ -207,32 +221,36 @@ fn many_gates(heap: Global) -> Result<Vec<Gate>, AllocError> {
         .collect(heap)
 }
 
-// Many steps of a list with 512 nets and eight flip-flops, with a fault: the last state and a sum of the outputs.
+// Many steps of a device, with a fault: the last state and a sum of the outputs.
+fn show_steps(rt: &impl Print, device: &impl Device) -> io::Result<()> {
+    let (state, sum) = (0u32..200000).fold((0, 0u32), |(state, sum), clock| {
+        let (next, output) = device.step(700, state, (clock % 64) as u8);
+        (next, sum.wrapping_add(output))
+    });
+    println!(rt; "200000 steps of 512 nets: state {state}, sum {sum}")
+}
+
+// The steps of a list with 512 nets and eight flip-flops.
 fn steps(rt: &(impl Print + AllocGlobal)) -> anyhow::Result<()> {
     let gates = many_gates(rt.alloc())?;
-    let device = taken_in(
+    match taken_in(
         6,
         &gates,
         &[504, 505, 506, 507, 508, 509, 510, 511],
         &[500, 501, 502, 503],
-    )?;
-    let mut state = 0;
-    let mut sum = 0u32;
-    for clock in 0u32..200000 {
-        let (next, output) = device.step(700, state, (clock % 64) as u8);
-        state = next;
-        sum = sum.wrapping_add(output);
+    ) {
+        Ok(device) => show_steps(rt, &device)?,
+        Err(refusal) => println!(rt; "{refusal}")?,
     }
-    println!(rt; "200000 steps of 512 nets: state {state}, sum {sum}")?;
     Ok(())
 }
 
 fn main(rt: HostRuntime) -> anyhow::Result<()> {
     let mut bench = Bench::new(&rt)?;
-    bench.run("serial adder", taken_in(2, &adder(), &[7], &[4])?)?;
-    bench.run("counter", taken_in(1, &counter(), &[5, 7, 9, 11], &[12])?)?;
-    bench.run("detector", taken_in(1, &detector(), &[6, 3], &[5])?)?;
-    bench.run("redundant net", taken_in(2, &redundant(), &[], &[3])?)?;
+    bench.run_gates("serial adder", taken_in(2, &adder(), &[7], &[4]))?;
+    bench.run_gates("counter", taken_in(1, &counter(), &[5, 7, 9, 11], &[12]))?;
+    bench.run_gates("detector", taken_in(1, &detector(), &[6, 3], &[5]))?;
+    bench.run_gates("redundant net", taken_in(2, &redundant(), &[], &[3]))?;
     bench.show_piles()?;
     steps(&rt)?;
     println!(rt; "{} worked cases hold", worked_cases())?;

@@ -22,6 +22,11 @@ abbrev pub gates_refusal : ℕ → ℕ → List Gate → List ℕ → List ℕ �
 gates_refusal pins reset gates loads outputs =
     if counts_outside pins gates loads outputs || parts_outside pins reset gates loads outputs then Some OutsideDeviceRules else None
 
+-- a device made: it is that of the gate list, or this is refused
+abbrev pub Made : ℕ → ℕ → List Gate → List ℕ → List ℕ → Result Gates Refusal → Type 0
+Made pins reset gates loads outputs (Ok device) = (gates_refusal pins reset gates loads outputs ≡ None) × (machine_of device ≡ gates_machine pins reset gates loads outputs)
+Made pins reset gates loads outputs (Err r) = gates_refusal pins reset gates loads outputs ≡ Some r
+
 -- a gate list taken in: it is what the device means afterwards, or it is refused and the device is as it was
 abbrev pub TakenIn : ℕ → ℕ → List Gate → List ℕ → List ℕ → Gates → Gates → Result Unit Refusal → Type 0
 TakenIn pins reset gates loads outputs before after (Ok _) = (gates_refusal pins reset gates loads outputs ≡ None) × (machine_of after ≡ gates_machine pins reset gates loads outputs)

@@ -45,7 +45,7 @@ impl Kind {
     pub(crate) fn value(self, x: bool, y: bool) -> bool
         ensures { result ≡ gate_value self x y }
     {
-        self.table() >> (2 * x as u8 + y as u8) & 1 == 1
+        self.table() >> (2 * u8::from(x) + u8::from(y)) & 1 == 1
     }
 
     // Whether a gate of this kind may read two nets.
@@ -63,8 +63,8 @@ impl Gate {
     pub(crate) fn is_ordered(&self, net: usize) -> bool
         ensures { result ≡ gate_ordered net self.now }
     {
-        (self.left as usize) < net
-            && (self.right as usize) < net
+        usize::from(self.left) < net
+            && usize::from(self.right) < net
             && (self.kind.has_two_inputs() || self.left == self.right)
     }
 }

@@ -23,14 +23,13 @@ impl Nets {
     }
 
     // Writes the lowest bits of a word to the nets from a number on.
-    // By index: after a loop over iter_mut nothing is known of the elements.
     pub(crate) fn write_bits(&mut self, first: usize, count: usize, word: u16)
         requires { first + count ≤ 512 }
         ensures { take (first + count) self.new.values ≡ take first self.old.values ++ bits count word }
     {
         let mut rest = word;
-        for j in 0..count {
-            self.values[first + j] = rest % 2 == 1;
+        for value in self.values[first..first + count].iter_mut() {
+            *value = rest % 2 == 1;
             rest /= 2;
         }
     }
@@ -47,7 +46,7 @@ impl Nets {
         requires { net < 512 }
         ensures { result ≡ value_at self.now.values net }
     {
-        self.values[net as usize]
+        self.values[usize::from(net)]
     }
 
     // The value of a gate whose nets have their values.
@@ -67,6 +66,7 @@ impl Nets {
         requires inside { name_nets 512 numbers.now ≡ true }
         ensures { result ≡ word_at self.now.values numbers.now }
     {
+        // A loop: from a `sum` of mapped bits the check finds neither that they fit nor which word they are.
         let mut word = 0;
         for (place, number) in numbers.iter().enumerate() {
             word += bit(place, self.value(*number));
@@ -80,5 +80,5 @@ fn bit(place: usize, value: bool) -> u32
     requires { place < 32 }
     ensures { result ≡ (if value then 2 ^ place else 0) }
 {
-    (value as u32) << place
+    u32::from(value) << place
 }

@@ -41,9 +41,9 @@ impl<'a> Pass<'a> {
     pub(crate) fn evaluate(&self, nets: &mut Nets)
         ensures { nets.new.values ≡ passed nets.old.values self.now.first self.now.gates.now }
     {
-        for (i, gate) in self.gates.iter().enumerate() {
+        for (net, gate) in (self.first..).zip(self.gates) {
             let value = nets.gate_value(gate);
-            nets.set(self.first + i, value);
+            nets.set(net, value);
         }
     }
 

@@ -1,7 +1,24 @@
 ghost use Rattle.std.specs.Prelude.{◌≡◌, ◌+◌, ◌≤◌, length, nat_lt};
-ghost use Rattle.gates.specs.Rules.{gates_ordered, name_nets};
+ghost use Rattle.gates.specs.Rules.{net_count, gates_ordered, name_nets};
 
 use crate::gate::Gate;
+use machine::Pins;
+
+// The net of the first gate: the pins and flip-flops come before it.
+pub(crate) fn first_gate(pins: Pins, loads: &[u16]) -> usize
+    requires { length loads.now ≤ 8 }
+    ensures { result ≡ pins.count + length loads.now }
+{
+    usize::from(pins.count) + loads.len()
+}
+
+// How many nets there are.
+pub(crate) fn net_count(pins: Pins, gates: &[Gate], loads: &[u16]) -> usize
+    requires { length loads.now ≤ 8 }
+    ensures { result ≡ net_count pins.count gates.now loads.now }
+{
+    first_gate(pins, loads) + gates.len()
+}
 
 // Whether each gate is in order; the first has the net with the number first.
 pub(crate) fn gates_ordered(first: usize, gates: &[Gate]) -> bool
@@ -13,11 +30,11 @@ pub(crate) fn gates_ordered(first: usize, gates: &[Gate]) -> bool
         .all(|(net, gate)| gate.is_ordered(net))
 }
 
-// Whether a number names one of the nets.
+// Whether a number names one of the nets. A function of its own, whose contract is the rule of one number in the proof of the next.
 fn names_net(count: usize, number: u16) -> bool
     ensures { result ≡ nat_lt number count }
 {
-    (number as usize) < count
+    usize::from(number) < count
 }
 
 // Whether each number does so.

@@ -16,7 +16,7 @@ impl StuckAt {
     {
         let fault = member.checked_sub(1)?;
         Some(StuckAt {
-            net: fault as usize / 2,
+            net: usize::from(fault / 2),
             value: member % 2 == 0,
         })
     }

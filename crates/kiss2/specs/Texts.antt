@@ -1,5 +1,5 @@
 -- The lines of a text, and the words of a line.
-use Rattle.std.specs.Prelude.{◌≡◌, ℕ, ◌+◌, ◌-◌, ◌≤◌, Bool, true, false, if◌then◌else◌, not, ◌||◌, List, [], ◌∷◌, length, take, drop, Some, None, Option, ◌==◌}
+use Rattle.std.specs.Prelude.{◌≡◌, ℕ, ◌+◌, ◌-◌, ◌^◌, ◌<◌, ◌≤◌, Bool, true, false, if◌then◌else◌, not, ◌||◌, List, [], ◌∷◌, length, take, drop, Some, None, Option, ◌==◌}
 use Rattle.std.specs.List.{prefix_len}
 use Rattle.kiss2.specs.declared.part.Part.{Part}
 use Rattle.kiss2.specs.declared.part.Word.{Word}
@@ -61,6 +61,10 @@ words_left text at end = words_from at false (take (end - at) (drop at text))
 -- the part of the text that a word is
 abbrev pub part_of : Word → Part
 part_of w = part w.place (length w.bytes.now)
+
+-- the word's place and length are numbers that a part holds
+abbrev pub FitsPart : Word → Type 0
+FitsPart w = (w.place < 2 ^ 16) × (length w.bytes.now < 2 ^ 16)
 
 -- a word is the part of the text at its place
 pub record Stands (text : List ℕ) (w : Word) : Type 0 where

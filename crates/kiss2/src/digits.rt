@@ -1,5 +1,4 @@
-ghost use Rattle.std.specs.Prelude.{◌≡◌, ◌+◌, ◌*◌, ◌^◌, ◌<◌, ◌≤◌, length, if◌then◌else◌, ◌==◌, nat_eq};
-ghost use Rattle.machine.specs.Lists.{all};
+ghost use Rattle.std.specs.Prelude.{◌≡◌, ◌+◌, ◌*◌, ◌^◌, ◌<◌, ◌≤◌, length, if◌then◌else◌, Some, None, ◌==◌, nat_eq};
 ghost use Rattle.kiss2.specs.Rows.{has_width, is_bit, output_word};
 
 // Whether the byte is `0`, `1` or a dash.
@@ -9,42 +8,30 @@ fn is_bit(byte: u8) -> bool
     matches!(byte, b'0' | b'1' | b'-')
 }
 
-// Whether each byte is one.
-fn all_bits(bytes: &[u8]) -> bool
-    ensures { result ≡ all is_bit bytes.now }
-{
-    bytes.iter().all(|byte| is_bit(*byte))
-}
-
 // Whether the word has as many such bytes as the width says, and no other.
 pub(crate) fn has_width(bytes: &[u8], width: u8) -> bool
     ensures { result ≡ has_width width bytes.now }
 {
-    bytes.len() == width as usize && all_bits(bytes)
+    bytes.len() == usize::from(width) && bytes.iter().all(|byte| is_bit(*byte))
 }
 
-// Whether the digit of an input matches both bits.
-pub(crate) fn matches_both(digit: u8) -> bool
-    ensures { result ≡ (digit == 45) }
+// The bit that a digit stands for; none for a dash, which in an input matches both.
+pub(crate) fn bit_of(digit: u8) -> Option<bool>
+    ensures { result ≡ (if nat_eq digit 45 then None else Some (digit == 49)) }
 {
-    digit == b'-'
-}
-
-// The bit that any other digit stands for; in an output a dash reads as 0.
-pub(crate) fn bit_of(digit: u8) -> u8
-    ensures value { result ≡ (if nat_eq digit 49 then 1 else 0) }
-    ensures bound { result ≤ 1 }
-{
-    if digit == b'1' { 1 } else { 0 }
+    if digit == b'-' {
+        None
+    } else {
+        Some(digit == b'1')
+    }
 }
 
 // A number with one bit more behind it: the leftmost digit comes first and is the highest bit.
-pub(crate) fn longer(number: usize, bit: u8) -> usize
-    requires number { number < 2 ^ 60 }
-    requires bit { bit ≤ 1 }
-    ensures { result ≡ number * 2 + bit }
+pub(crate) fn longer(number: usize, bit: bool) -> usize
+    requires { number < 2 ^ 60 }
+    ensures { result ≡ number * 2 + (if bit then 1 else 0) }
 {
-    number * 2 + bit as usize
+    number * 2 + usize::from(bit)
 }
 
 // The output word that up to 32 digits write, the leftmost as the highest bit.
@@ -55,7 +42,8 @@ pub(crate) fn output_word(digits: &[u8]) -> u32
 {
     let mut word = 0;
     for digit in digits {
-        word = longer(word, bit_of(*digit));
+        // In an output a dash reads as 0.
+        word = longer(word, bit_of(*digit).unwrap_or(false));
     }
     word as u32
 }

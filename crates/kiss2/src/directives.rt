@@ -1,24 +1,16 @@
-ghost use Rattle.std.specs.Prelude.{◌≡◌, ◌^◌, ◌<◌, true, length};
-ghost use Rattle.machine.specs.Lists.{all};
-ghost use Rattle.kiss2.specs.Texts.{part_of};
-ghost use Rattle.kiss2.specs.Headings.{count_of, decimal, is_count, is_digit, reset_name, short_name};
+ghost use Rattle.std.specs.Prelude.{◌≡◌, true};
+ghost use Rattle.kiss2.specs.Texts.{FitsPart, part_of};
+ghost use Rattle.kiss2.specs.Headings.{count_of, decimal, is_count, reset_name, short_name};
 
 use crate::line::opens_with_stop;
 use crate::part::{Part, Word};
 use machine::Refusal;
 
-// Whether each byte is a decimal digit.
-fn all_digits(bytes: &[u8]) -> bool
-    ensures { result ≡ all is_digit bytes.now }
-{
-    bytes.iter().all(|byte| byte.is_ascii_digit())
-}
-
 // Whether the word has one to five digits and nothing else.
 fn is_count(bytes: &[u8]) -> bool
     ensures { result ≡ is_count bytes.now }
 {
-    !bytes.is_empty() && bytes.len() <= 5 && all_digits(bytes)
+    (1..=5).contains(&bytes.len()) && bytes.iter().all(|byte| byte.is_ascii_digit())
 }
 
 // The number that up to five digits write.
@@ -57,8 +49,7 @@ pub(crate) fn short_name(bytes: &[u8]) -> bool
 
 // The part of the text that the name of a reset state is.
 pub(crate) fn reset_name(name: Word) -> Result<Part, Refusal>
-    requires place { name.place < 2 ^ 16 }
-    requires length { length name.bytes.now < 2 ^ 16 }
+    requires { FitsPart name }
     ensures { result ≡ reset_name (part_of name.entry) name.entry.bytes.now }
 {
     if opens_with_stop(name.bytes) {

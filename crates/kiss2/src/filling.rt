@@ -4,7 +4,7 @@ ghost use Rattle.kiss2.specs.Placing.{Placed, put_all, put_at, table};
 ghost use Rattle.kiss2.specs.Progressing.{Gave};
 ghost use Rattle.kiss2.specs.Rows.{places};
 
-use crate::digits::{bit_of, longer, matches_both};
+use crate::digits::{bit_of, longer};
 use devices::Cell;
 use machine::Refusal;
 
@@ -22,14 +22,15 @@ pub(crate) struct Filling<'a> {
 }
 
 impl<'a> Filling<'a> {
+    ghost use Rattle.kiss2.specs.Readers.{SameCells};
+
     // Gives the cell at a place, unless another was given there before.
     fn give(&mut self, place: usize, cell: Cell) -> Result<(), Refusal>
         requires cells { place < length self.old.cells.now }
         requires few { place < 16384 }
         ensures put { Placed (put_at cell place (table self.old.cells.now self.old.given)) result (table self.new.cells.now self.new.given) }
         ensures clash { self.new.clash ≡ self.old.clash }
-        ensures size { length self.new.cells.now ≡ length self.old.cells.now }
-        ensures lent { self.new.cells.ghost_name ≡ self.old.cells.ghost_name }
+        ensures lent { SameCells self.old self.new }
     {
         if !self.given[place] {
             self.given[place] = true;
@@ -49,19 +50,17 @@ impl<'a> Filling<'a> {
         requires few { (place + 1) * 2 ^ length digits.now ≤ 16384 }
         ensures put { Placed (put_all cell (places digits.now place) (table self.old.cells.now self.old.given)) result (table self.new.cells.now self.new.given) }
         ensures clash { self.new.clash ≡ self.old.clash }
-        ensures size { length self.new.cells.now ≡ length self.old.cells.now }
-        ensures lent { self.new.cells.ghost_name ≡ self.old.cells.ghost_name }
+        ensures lent { SameCells self.old self.new }
     {
-        if digits.is_empty() {
+        let [digit, rest @ ..] = digits else {
             return self.give(place, cell);
-        }
-        let digit = digits[0];
-        let rest = &digits[1..];
-        if matches_both(digit) {
-            self.give_all(rest, longer(place, 0), cell)?;
-            self.give_all(rest, longer(place, 1), cell)
-        } else {
-            self.give_all(rest, longer(place, bit_of(digit)), cell)
+        };
+        match bit_of(*digit) {
+            Some(bit) => self.give_all(rest, longer(place, bit), cell),
+            None => {
+                self.give_all(rest, longer(place, false), cell)?;
+                self.give_all(rest, longer(place, true), cell)
+            }
         }
     }
 
@@ -70,9 +69,9 @@ impl<'a> Filling<'a> {
         requires digits { length digits.now ≤ 6 }
         requires state { state < 256 }
         ensures gave { Gave self.old.clash line (record { input = digits.now; current = state; next = cell.next; output = cell.output }) (table self.old.cells.now self.old.given) self.new.clash (table self.new.cells.now self.new.given) }
-        ensures size { length self.new.cells.now ≡ length self.old.cells.now }
-        ensures lent { self.new.cells.ghost_name ≡ self.old.cells.ghost_name }
+        ensures lent { SameCells self.old self.new }
     {
+        // A cast: with `usize::from` the check does not find the proof of `gave`.
         let end = (state as usize + 1) << digits.len();
         if self.clash.is_some() || self.cells.len() < end {
             return;

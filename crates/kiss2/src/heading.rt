@@ -1,13 +1,16 @@
-ghost use Rattle.std.specs.Prelude.{◌≡◌, ◌^◌, ◌<◌, length, if◌then◌else◌, Some, None, Ok, Err, OnOk, IfErr};
+ghost use Rattle.std.specs.Prelude.{◌≡◌, if◌then◌else◌, Some, None, Ok, Err, OnOk, IfErr};
 ghost use Rattle.kiss2.specs.Headings.{stated, take_directive, with_directive, with_end};
 ghost use Rattle.kiss2.specs.Rows.{row_refusal};
-ghost use Rattle.kiss2.specs.Texts.{part_of};
+ghost use Rattle.kiss2.specs.Texts.{FitsPart, part_of};
 
 use crate::digits::has_width;
 use crate::directives::{count_of, reset_name, short_name};
 use crate::line::{Key, Row};
 use crate::part::{Part, Word};
 use machine::Refusal;
+
+// The largest count that five digits write.
+const LARGEST_COUNT: u32 = 99999;
 
 // What the directives have said so far.
 #[derive(Clone, Copy, PartialEq, Eq, Debug, Default)]
@@ -36,16 +39,15 @@ impl Heading {
 
     // The heading with the directive.
     fn with(self, key: Key, value: Word) -> Result<Heading, Refusal>
-        requires place { value.place < 2 ^ 16 }
-        requires length { length value.bytes.now < 2 ^ 16 }
+        requires { FitsPart value }
         ensures { result ≡ with_directive self key (part_of value.entry) value.entry.bytes.now }
     {
         let mut heading = self;
         match key {
             Key::Inputs => heading.inputs = Some(count_of(value.bytes, 1, 6)? as u8),
             Key::Outputs => heading.outputs = Some(count_of(value.bytes, 1, 32)? as u8),
-            Key::Rows => heading.rows = Some(count_of(value.bytes, 0, 99999)?),
-            Key::States => heading.states = Some(count_of(value.bytes, 0, 99999)?),
+            Key::Rows => heading.rows = Some(count_of(value.bytes, 0, LARGEST_COUNT)?),
+            Key::States => heading.states = Some(count_of(value.bytes, 0, LARGEST_COUNT)?),
             Key::Reset => heading.reset = Some(reset_name(value)?),
         }
         Ok(heading)
@@ -53,8 +55,7 @@ impl Heading {
 
     // The heading with a directive that comes before the first row and the end and once, or a refusal.
     pub(crate) fn take(self, started: bool, key: Key, value: Word) -> Result<Heading, Refusal>
-        requires place { value.place < 2 ^ 16 }
-        requires length { length value.bytes.now < 2 ^ 16 }
+        requires { FitsPart value }
         ensures { result ≡ (if self.ended then Err Refusal.BadLine else take_directive started self key (part_of value.entry) value.entry.bytes.now) }
     {
         if self.ended || started || self.has(key) {

@@ -126,14 +126,8 @@ pub(crate) fn parse_line<'t>(text: &'t [u8], start: usize, end: usize) -> Result
         return Ok(Line::Blank);
     };
     match first.bytes {
-        [b'.', letter, rest @ ..] => {
-            if rest.is_empty() {
-                directive_of(*letter, &mut words)
-            } else {
-                Err(Refusal::BadLine)
-            }
-        }
-        [b'.'] => Err(Refusal::BadLine),
+        [b'.', letter, rest @ ..] if rest.is_empty() => directive_of(*letter, &mut words),
+        [b'.', ..] => Err(Refusal::BadLine),
         _ => row_of(first, &mut words),
     }
 }

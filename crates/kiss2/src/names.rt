@@ -28,6 +28,7 @@ fn number_among(text: &[u8], entries: &[Part], name: &[u8]) -> Option<usize>
 }
 
 // The names of the states so far: parts of the text, in the first entries of a slice.
+// The count stands beside the slice, since this is the caller's, as libraries use no heap.
 #[derive(Drop)]
 pub(crate) struct Names<'t, 'a> {
     pub(crate) text: &'t [u8],
@@ -39,13 +40,15 @@ pub(crate) struct Names<'t, 'a> {
 }
 
 impl<'t, 'a> Names<'t, 'a> {
+    ghost use Rattle.kiss2.specs.Readers.{SameNames};
+
     // The number of the name, if a state has it.
     #[inline(always)]
     fn number_of(&self, name: &[u8]) -> Option<usize>
         ensures { result ≡ number_among self.now.text.now (take self.now.count self.now.entries.now) name.now }
     {
         let entries: &[Part] = &*self.entries;
-        number_among(self.text, &entries[..self.count as usize], name)
+        number_among(self.text, &entries[..usize::from(self.count)], name)
     }
 
     // The number of the state that the word names: a new name is entered behind the others. A 257th is refused.
@@ -53,18 +56,17 @@ impl<'t, 'a> Names<'t, 'a> {
     fn number(&mut self, word: Word) -> Result<u16, Refusal>
         requires { Stands self.old.text.now word }
         ensures enlisted { Enlisted self.old.text.now (take self.old.count self.old.entries.now) (part_of word.entry) self.old.entries.now result self.new.entries.now self.new.count }
-        ensures text { self.new.text ≡ self.old.text }
-        ensures size { length self.new.entries.now ≡ length self.old.entries.now }
-        ensures lent { self.new.entries.ghost_name ≡ self.old.entries.ghost_name }
+        ensures lent { SameNames self.old self.new }
     {
         if let Some(number) = self.number_of(word.bytes) {
             return Ok(number as u16);
         }
         let number = self.count;
-        if number as usize == STATES {
+        let place = usize::from(number);
+        if place == STATES {
             return Err(Refusal::BadName);
         }
-        self.entries[number as usize] = word.part();
+        self.entries[place] = word.part();
         self.count += 1;
         Ok(number)
     }
@@ -74,9 +76,7 @@ impl<'t, 'a> Names<'t, 'a> {
         requires first { Stands self.old.text.now first }
         requires second { Stands self.old.text.now second }
         ensures enlisted { BothEnlisted self.old.text.now (take self.old.count self.old.entries.now) (part_of first.entry) (part_of second.entry) self.old.entries.now result self.new.entries.now self.new.count }
-        ensures text { self.new.text ≡ self.old.text }
-        ensures size { length self.new.entries.now ≡ length self.old.entries.now }
-        ensures lent { self.new.entries.ghost_name ≡ self.old.entries.ghost_name }
+        ensures lent { SameNames self.old self.new }
     {
         let one = self.number(first)?;
         let other = self.number(second)?;

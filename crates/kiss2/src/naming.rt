@@ -28,7 +28,7 @@ pub fn name<'n, 'g: 'n, 'f: 'n>(
 {
     let text = side_of(good, faulty, side);
     let names = side_of(good_names, faulty_names, side);
-    let part = *names.get(state as usize).ok_or(Refusal::OutOfRange)?;
+    let part = *names.get(usize::from(state)).ok_or(Refusal::OutOfRange)?;
     if !part.lies_in(text) {
         return Err(Refusal::OutOfRange);
     }

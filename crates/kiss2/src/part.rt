@@ -1,6 +1,6 @@
-ghost use Rattle.std.specs.Prelude.{◌≡◌, ◌^◌, ◌<◌, length, drop};
+ghost use Rattle.std.specs.Prelude.{◌≡◌, drop};
 ghost use Rattle.kiss2.specs.Sides.{lies_in};
-ghost use Rattle.kiss2.specs.Texts.{bytes_of, part_of};
+ghost use Rattle.kiss2.specs.Texts.{FitsPart, bytes_of, part_of};
 
 // A part of a text: where it begins, and how many bytes it has.
 #[derive(Clone, Copy, PartialEq, Eq, Hash, Debug, Default)]
@@ -23,15 +23,15 @@ impl Part {
     pub(crate) fn lies_in(self, text: &[u8]) -> bool
         ensures { result ≡ lies_in text.now self }
     {
-        self.place as usize + self.length as usize <= text.len()
+        usize::from(self.place) + usize::from(self.length) <= text.len()
     }
 
     // The bytes of the part, as far as they lie in the text.
     pub fn bytes_in(self, text: &[u8]) -> &[u8]
         ensures { result.now ≡ bytes_of text.now self }
     {
-        let place = self.place as usize;
-        let end = place + self.length as usize;
+        let place = usize::from(self.place);
+        let end = place + usize::from(self.length);
         if end <= text.len() {
             &text[place..end]
         } else {
@@ -50,8 +50,7 @@ pub struct Word<'t> {
 impl<'t> Word<'t> {
     // The part of the text that the word is.
     pub(crate) fn part(self) -> Part
-        requires place { self.place < 2 ^ 16 }
-        requires length { length self.bytes.now < 2 ^ 16 }
+        requires { FitsPart self }
         ensures { result ≡ part_of self.entry }
     {
         Part {

@@ -1,4 +1,4 @@
-ghost use Rattle.std.specs.Prelude.{◌≡◌, ◌+◌, ◌^◌, ◌<◌, ◌≤◌, false, length, take, replicate};
+ghost use Rattle.std.specs.Prelude.{◌≡◌, ◌+◌, ◌^◌, ◌<◌, ◌≤◌, false, length, replicate};
 ghost use Rattle.kiss2.specs.Concluding.{shape_held};
 ghost use Rattle.kiss2.specs.Lines.{LineStands, RowStands, line_of, line_said};
 ghost use Rattle.kiss2.specs.Progressing.{LinesRead, nothing_read};
@@ -58,6 +58,7 @@ fn miscounted(stated: Option<u32>, found: usize) -> bool
 
 // A reader of lines: what the directives have said so far, and how many rows there are. The states and the cells go into the names and the table.
 // These are handed to each call: of a slice that a struct inside another struct borrows, only the length is known once the loan ends.
+// In one flat struct each step on the names would have to say that the cells stay, and each on the cells that the names do.
 #[derive(Clone, Copy, Debug, Default)]
 pub(crate) struct Reader {
     pub(crate) heading: Heading,
@@ -76,9 +77,7 @@ impl Reader {
         requires stands { RowStands names.old.text.now row }
         requires unended { self.old.heading.ended ≡ false }
         requires reads { Reads self.old names.old table.old }
-        ensures taken { Steps (λ s. take_row names.old.text.now line s (part_of row.entry.input) (part_of row.entry.current) (part_of row.entry.next) (part_of row.entry.output)) self.old names.old table.old result self.new names.new table.new }
-        ensures more { self.new.rows ≤ self.old.rows + 1 }
-        ensures lent { SameLoans names.old table.old names.new table.new }
+        ensures { Steps (λ s. take_row names.old.text.now line s (part_of row.entry.input) (part_of row.entry.current) (part_of row.entry.next) (part_of row.entry.output)) self.old names.old table.old result self.new names.new table.new }
     {
         self.heading.check(row)?;
         let (first, second) = row.states();
@@ -102,9 +101,7 @@ impl Reader {
     ) -> Result<(), Refusal>
         requires stands { LineStands names.old.text.now said }
         requires reads { Reads self.old names.old table.old }
-        ensures taken { Steps (λ s. take_line names.old.text.now line s (line_said said.entry)) self.old names.old table.old result self.new names.new table.new }
-        ensures more { self.new.rows ≤ self.old.rows + 1 }
-        ensures lent { SameLoans names.old table.old names.new table.new }
+        ensures { Steps (λ s. take_line names.old.text.now line s (line_said said.entry)) self.old names.old table.old result self.new names.new table.new }
     {
         match said {
             Line::Blank => Ok(()),
@@ -137,9 +134,7 @@ impl Reader {
         requires ordered { start ≤ end }
         requires inside { end ≤ length names.old.text.now }
         requires reads { Reads self.old names.old table.old }
-        ensures taken { Steps (λ s. take_said names.old.text.now line s (line_of names.old.text.now (words_left names.old.text.now start end))) self.old names.old table.old result self.new names.new table.new }
-        ensures more { self.new.rows ≤ self.old.rows + 1 }
-        ensures lent { SameLoans names.old table.old names.new table.new }
+        ensures { Steps (λ s. take_said names.old.text.now line s (line_of names.old.text.now (words_left names.old.text.now start end))) self.old names.old table.old result self.new names.new table.new }
     {
         let said = parse_line(names.text, start, end)?;
         self.take_line(names, table, line, said)
@@ -155,10 +150,7 @@ impl Reader {
         requires nothing { progress self.old names.old table.old ≡ nothing_read }
         requires ungiven { table.old.given ≡ replicate 16384 false }
         ensures read { LinesRead names.old.text.now table.old.cells.now names.old.entries.now result (progress self.new names.new table.new) names.new.entries.now (filled table.new) }
-        ensures names_lent { names.new.entries.ghost_name ≡ names.old.entries.ghost_name }
-        ensures cells_lent { table.new.cells.ghost_name ≡ table.old.cells.ghost_name }
-        ensures text { names.new.text ≡ names.old.text }
-        ensures size { length table.new.cells.now ≡ length table.old.cells.now }
+        ensures lent { SameLoans names.old table.old names.new table.new }
     {
         let text = names.text;
         let mut start = LineStart::first();
@@ -183,7 +175,7 @@ impl Reader {
     {
         let heading = self.heading;
         let states = names.count;
-        if miscounted(heading.rows, self.rows) || miscounted(heading.states, states as usize) {
+        if miscounted(heading.rows, self.rows) || miscounted(heading.states, usize::from(states)) {
             return Err(Refusal::CountMismatch.into());
         }
         let reset = names

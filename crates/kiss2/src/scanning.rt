@@ -26,6 +26,7 @@ fn ends_line(byte: u8) -> bool
 }
 
 // How many bytes stand before the first line end.
+// This count and the next two are one chain each: a function of the rule could tell its result only byte by byte, and each definition would have to be shown from that.
 pub(crate) fn line_length(text: &[u8]) -> usize
     ensures value { result ≡ line_length text.now }
     ensures bound { result ≤ length text.now }

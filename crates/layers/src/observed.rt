@@ -21,7 +21,8 @@ impl<D> Observed<D> {
     }
 }
 
-// The methods that a layer passes on are written out: an impl by a macro is refused.
+// The methods that a layer passes on are written out, here and in `Tied`: an impl by a macro is refused, and one generic layer
+// would take a trait of rules for letters and outputs, with a meaning and a law of its own, for just these two rules.
 impl<D: Device> Device for Observed<D> {
     ghost meaning = { λ o. observed o.mask (D.Device.meaning o.below) };
 

@@ -30,6 +30,7 @@ pub enum Refusal {
 }
 
 impl Refusal {
+    // The code stands here, and `From` passes it on.
     pub fn number(self) -> u8
         ensures { result ≡ refusal_number self }
     {

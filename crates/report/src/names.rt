@@ -4,6 +4,7 @@ ghost use Rattle.report.specs.Names.{named};
 use kiss2::Part;
 
 // The names of a table's states, as parts of its text.
+// The names that `kiss2` fills borrow all 256 entries to write, and its `name` refuses a state without one, so that each visit's states would have to be shown to have one.
 #[derive(Clone, Copy)]
 pub(crate) struct Names<'a> {
     pub(crate) text: &'a [u8],
@@ -15,7 +16,7 @@ impl<'a> Names<'a> {
     pub(crate) fn of(self, state: u16) -> &'a [u8]
         ensures { result.now ≡ named self.entry state }
     {
-        let entry = self.entries.get(state as usize);
+        let entry = self.entries.get(usize::from(state));
         entry.copied().unwrap_or_default().bytes_in(self.text)
     }
 }

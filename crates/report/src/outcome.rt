@@ -7,18 +7,14 @@ ghost use Rattle.report.specs.Writing.{Adds, Rendered};
 use crate::listing::Listing;
 use crate::sequence::Sequence;
 use crate::writing::Writer;
-use kiss2::Side;
+use kiss2::{Refused, Side};
 use machine::Refusal;
 
 // What a report tells.
 #[derive(Clone, Copy)]
 pub(crate) enum Outcome<'a> {
     // A refusal of one text, or of both, at a line.
-    Refused {
-        refusal: Refusal,
-        side: Option<Side>,
-        line: usize,
-    },
+    Refused { error: Refused, side: Option<Side> },
     // The least sequence that distinguishes the tables.
     Differ(Sequence<'a>),
     // None does: the reachable pairs.
@@ -26,6 +22,7 @@ pub(crate) enum Outcome<'a> {
 }
 
 // The word for a text, or for both.
+// As bytes: through the `Display` of a side the writer would need an `fmt::Write` of its own, and `both` would still be a case here.
 fn side_word(side: Option<Side>) -> &'static [u8]
     ensures { result.now ≡ whom_word side }
 {
@@ -37,27 +34,23 @@ fn side_word(side: Option<Side>) -> &'static [u8]
 }
 
 // Writes the line of a refusal.
-fn write_refusal(out: &mut Writer, refusal: Refusal, side: Option<Side>, line: usize)
-    ensures { Adds (rendering (refused refusal side line)) out.old out.new }
+fn write_refusal(out: &mut Writer, error: Refused, side: Option<Side>)
+    ensures { Adds (rendering (refused error.refusal side error.line)) out.old out.new }
 {
     out.push_all(b"refused ");
-    out.push_decimal(refusal.number() as usize);
+    out.push_decimal(usize::from(error.refusal.number()));
     out.push(b' ');
     out.push_all(side_word(side));
-    out.push_count(b" ", line);
+    out.push_count(b" ", error.line);
 }
 
 impl Outcome<'_> {
-    // Writes the report. It is no `Display`, since the bytes of a name need not be UTF-8.
+    // Writes the report. It is no `Display`: a listing holds names as bytes, which need not be UTF-8, and `write!` takes text only.
     fn write(&self, out: &mut Writer)
         ensures { Adds (rendering (told self.now)) out.old out.new }
     {
         match self {
-            Outcome::Refused {
-                refusal,
-                side,
-                line,
-            } => write_refusal(out, *refusal, *side, *line),
+            Outcome::Refused { error, side } => write_refusal(out, *error, *side),
             Outcome::Differ(sequence) => sequence.write(out),
             Outcome::Equivalent(listing) => listing.write(out),
         }
@@ -87,16 +80,10 @@ impl Outcome<'_> {
 // Reports a refusal of one text, or of both, at a line.
 pub(crate) fn refuse(
     report: &mut [u8],
-    refusal: Refusal,
+    error: Refused,
     side: Option<Side>,
-    line: usize,
 ) -> Result<usize, Refusal>
-    ensures { Answered (rendering (refused refusal side line)) report.old result report.new }
+    ensures { Answered (rendering (refused error.refusal side error.line)) report.old result report.new }
 {
-    let outcome = Outcome::Refused {
-        refusal,
-        side,
-        line,
-    };
-    outcome.answer(report)
+    Outcome::Refused { error, side }.answer(report)
 }

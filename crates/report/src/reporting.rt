@@ -27,11 +27,11 @@ pub fn report<'a>(
 {
     let good = match Source::read(good, good_cells, good_names) {
         Ok(source) => source,
-        Err(e) => return refuse(report, e.refusal, Some(Side::Good), e.line),
+        Err(error) => return refuse(report, error, Some(Side::Good)),
     };
     let faulty = match Source::read(faulty, faulty_cells, faulty_names) {
         Ok(source) => source,
-        Err(e) => return refuse(report, e.refusal, Some(Side::Faulty), e.line),
+        Err(error) => return refuse(report, error, Some(Side::Faulty)),
     };
     let tables = Tables { good, faulty };
     tables.report(visits, marks, report)

@@ -31,7 +31,7 @@ impl<'a> Source<'a> {
         ensures refused { IfErr result (λ e. reading text.now (length names.old) (length cells.old) ≡ Err e) }
     {
         let shape = read(text, cells, names)?;
-        let entries = &names[..shape.states as usize];
+        let entries = &names[..usize::from(shape.states)];
         let cells = &cells[..shape.cell_count()];
         Ok(Source {
             names: Names { text, entries },

@@ -73,7 +73,7 @@ impl Tables<'_, '_> {
                 Outcome::Equivalent(listing).answer(report)
             }
             // Only work slices can be too short: there are letters for each pair of states.
-            Err(error) => refuse(report, error.into(), None, 0),
+            Err(error) => refuse(report, Refusal::from(error).into(), None),
         }
     }
 
@@ -87,7 +87,7 @@ impl Tables<'_, '_> {
         ensures { Reported (BothHeld self.now (length visits.old) (length marks.old)) report.old result report.new }
     {
         if !self.same_widths() {
-            return refuse(report, Refusal::WidthsDiffer, None, 0);
+            return refuse(report, Refusal::WidthsDiffer.into(), None);
         }
         self.compare(visits, marks, report)
     }

@@ -5,6 +5,7 @@ ghost use Rattle.report.specs.Outcomes.{count_line};
 use itoa::Buffer;
 
 // Text that is written piece behind piece into the first bytes of a lent slice, as far as it reaches. What does not fit is counted too.
+// The count stands beside the slice, since this is the caller's, as libraries use no heap.
 #[derive(Drop)]
 pub(crate) struct Writer<'a> {
     pub(crate) out: &'a mut [u8],

@@ -6,6 +6,7 @@ use devices::{AlteredCell, Cell, Table};
 use machine::Pair;
 use search::Visit;
 use std::alloc::{AllocError, Global};
+use std::io;
 
 const STATES: u16 = 256;
 
@@ -50,6 +51,15 @@ const ALTERED: [AlteredCell; 2] = [
     },
 ];
 
+// Checks the pairs that were found.
+fn show_check(rt: &impl Print, table: &Table, second: u16, pairs: &[Pair]) -> io::Result<()> {
+    match check(table, 0, second, pairs) {
+        Ok(None) => println!(rt; "0 with {second}: closed"),
+        Ok(Some(_)) => println!(rt; "0 with {second}: not closed"),
+        Err(refusal) => println!(rt; "0 with {second}: {refusal}"),
+    }
+}
+
 // Compares the good table with a faulty one, and checks the pairs that were found.
 fn show(rt: &(impl Print + AllocGlobal), table: &Table, second: u16) -> anyhow::Result<()> {
     let heap = rt.alloc();
@@ -57,7 +67,7 @@ fn show(rt: &(impl Print + AllocGlobal), table: &Table, second: u16) -> anyhow::
     let mut marks = vec![in heap; 0; PAIRS]?;
     let mut letters = vec![in heap; 0; PAIRS]?;
     let mut pairs = vec![in heap; Pair::default(); PAIRS]?;
-    let verdict = compare(
+    match compare(
         table,
         0,
         second,
@@ -65,13 +75,14 @@ fn show(rt: &(impl Print + AllocGlobal), table: &Table, second: u16) -> anyhow::
         &mut marks,
         &mut letters,
         &mut pairs,
-    )?;
-    println!(rt; "0 with {second}: {verdict}")?;
-    if let Verdict::Equivalent { count } = verdict {
-        match check(table, 0, second, &pairs[..count])? {
-            None => println!(rt; "0 with {second}: closed")?,
-            Some(_) => println!(rt; "0 with {second}: not closed")?,
+    ) {
+        Ok(verdict) => {
+            println!(rt; "0 with {second}: {verdict}")?;
+            if let Verdict::Equivalent { count } = verdict {
+                show_check(rt, table, second, &pairs[..count])?;
+            }
         }
+        Err(refusal) => println!(rt; "0 with {second}: {refusal}")?,
     }
     Ok(())
 }
@@ -79,7 +90,9 @@ fn show(rt: &(impl Print + AllocGlobal), table: &Table, second: u16) -> anyhow::
 fn main(rt: HostRuntime) -> anyhow::Result<()> {
     let cells = cells(rt.alloc())?;
     let mut table = Table::idle();
-    table.take_in(6, STATES, 0, &cells, &ALTERED)?;
+    if let Err(refusal) = table.take_in(6, STATES, 0, &cells, &ALTERED) {
+        println!(rt; "the table is refused by {}", refusal.number())?;
+    }
     show(&rt, &table, 1)?;
     show(&rt, &table, 2)
 }

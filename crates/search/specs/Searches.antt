@@ -6,14 +6,15 @@ use Rattle.search.specs.declared.visit.Visit.{Visit}
 use Rattle.search.specs.declared.walk.Walk.{Ghosts}
 use Rattle.search.specs.declared.worklist.Worklist.{Worklist}
 
--- a later state of the list: over the same lent slice, with the same entry next and none gone
-pub record Continues {V : Type 0} (old new : Worklist V) : Type 0 where
-  pub lent : new.items.ghost_name ≡ old.items.ghost_name
-  pub size : length new.items.now ≡ length old.items.now
-  pub head : new.head ≡ old.head
-  pub grows : old.tail ≤ new.tail
-
 module _ {W P : Type 0} {w : Ghosts W P} where
+  -- a later state of the search: of the same walk, and of the list over the same lent slice, with the same entry next and none gone
+  pub record Continues (s t : Search W P w) (old new : Worklist (Visit P)) : Type 0 where
+    pub walk : t.walk ≡ s.walk
+    pub lent : new.items.ghost_name ≡ old.items.ghost_name
+    pub size : length new.items.now ≡ length old.items.now
+    pub head : new.head ≡ old.head
+    pub grows : old.tail ≤ new.tail
+
   -- each visit is inside, and its mark leads to it
   abbrev pub IsMarked : Search W P w → Worklist (Visit P) → Type 0
   IsMarked s list = Marked (w.graph s.walk.now) (w.Inside s.walk.now) list.items.now s.marks.now list.tail

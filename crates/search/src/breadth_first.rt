@@ -14,7 +14,8 @@ pub(crate) enum Outcome {
 }
 
 // A walk under search, and for each number a mark that leads to its visit in the list. The list stands beside it:
-// of a slice lent to a struct within a struct nothing is known after the loan.
+// of a slice lent to a struct within a struct nothing is known after the loan. Nor are the list's own fields in here:
+// `push`, `next` and `get` would each have to say that walk and marks stay.
 #[derive(Drop)]
 struct Search<'a, W: Walk> {
     walk: &'a W,
@@ -44,8 +45,7 @@ impl<'a, W: Walk> Search<'a, W> {
         ensures items { list.new.items.now ≡ slice_set list.old.items.now list.old.tail visit }
         ensures marks { self.new.marks.now ≡ slice_set self.old.marks.now ((W.graph self.old.walk.now).number visit.position) list.old.tail }
         ensures tail { list.new.tail ≡ list.old.tail + 1 }
-        ensures walk { self.new.walk ≡ self.old.walk }
-        ensures continues { Continues list.old list.new }
+        ensures continues { Continues self.old self.new list.old list.new }
     {
         let number = self.walk.number(visit.position);
         let index = list.len();
@@ -60,8 +60,7 @@ impl<'a, W: Walk> Search<'a, W> {
         requires inside { at < list.old.tail }
         requires lettered { letter < (W.graph self.old.walk.now).letters }
         ensures tried { Tried self.new list.new at letter result }
-        ensures walk { self.new.walk ≡ self.old.walk }
-        ensures continues { Continues list.old list.new }
+        ensures continues { Continues self.old self.new list.old list.new }
     {
         let here = list.get(at);
         match self.walk.step(here.position, letter) {
@@ -88,8 +87,7 @@ impl<'a, W: Walk> Search<'a, W> {
         requires tried { HasTried self.old list.old at 0 }
         requires inside { at < list.old.tail }
         ensures expanded { Expanded self.new list.new at result }
-        ensures walk { self.new.walk ≡ self.old.walk }
-        ensures continues { Continues list.old list.new }
+        ensures continues { Continues self.old self.new list.old list.new }
     {
         // A loop, since nothing is known of a list that the closure of a `find` changes.
         for letter in 0..self.walk.letters() {

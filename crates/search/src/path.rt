@@ -13,6 +13,7 @@ fn write_back<P: Copy>(links: BackLinks<P>, last: u8, out: &mut [u8])
 {
     let end = out.len() - 1;
     out[end] = last;
+    // Not `out[..end].iter_mut().rev().zip(links)`: behind adapters of `iter_mut` nothing is known of the elements.
     for (place, letter) in (0..end).rev().zip(links) {
         out[place] = letter;
     }

@@ -46,6 +46,6 @@ pub fn controller() -> Table<'static>
     ensures { machine_of result ≡ controller }
 {
     let mut table = Table::idle();
-    let _ = table.take_in(1, 4, 0, &CELLS, &ALTERED);
+    table.take_in(1, 4, 0, &CELLS, &ALTERED).unwrap();
     table
 }

@@ -12,7 +12,7 @@ use machine::{Device, within};
 fn place(letters: u8, state: u16, letter: u8) -> usize
     ensures { result ≡ state * letters + letter }
 {
-    state as usize * letters as usize + letter as usize
+    usize::from(state) * usize::from(letters) + usize::from(letter)
 }
 
 impl<'a> Table<'a> {

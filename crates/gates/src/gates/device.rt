@@ -7,6 +7,7 @@ ghost use Rattle.gates.specs.Soundness.{gates_sound};
 use crate::gates::Gates;
 use crate::nets::Nets;
 use crate::pass::Pass;
+use crate::rules::{first_gate, net_count};
 use crate::stuck_at::StuckAt;
 use machine::{Device, within};
 
@@ -28,7 +29,7 @@ impl<'a> Gates<'a> {
         nets.write_bits(0, pins, letter as u16);
         nets.write_bits(pins, self.loads.len(), state);
         let pass = Pass {
-            first: pins + self.loads.len(),
+            first: first_gate(self.pins, self.loads),
             gates: self.gates,
         };
         match StuckAt::of(member) {
@@ -68,7 +69,7 @@ impl<'a> Device for Gates<'a> {
     ghost sound = { gates_sound };
 
     fn members(&self) -> u16 {
-        2 * (self.pins.count as u16 + self.loads.len() as u16 + self.gates.len() as u16) + 1
+        2 * net_count(self.pins, self.gates, self.loads) as u16 + 1
     }
 
     fn letters(&self) -> u8 {

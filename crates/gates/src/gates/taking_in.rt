@@ -1,13 +1,45 @@
-ghost use Rattle.gates.specs.TakingIn.{TakenIn};
+ghost use Rattle.gates.specs.TakingIn.{Made, TakenIn};
 
 use crate::gate::Gate;
 use crate::gates::Gates;
 use crate::gates::device::state_count;
 use crate::nets::MOST_NETS;
-use crate::rules::{gates_ordered, name_nets};
+use crate::rules::{first_gate, gates_ordered, name_nets, net_count};
 use machine::{Pins, Refusal};
 
 impl<'a> Gates<'a> {
+    // The device of a gate list, where it keeps the rules.
+    pub fn new(
+        pins: u8,
+        reset: u16,
+        gates: &'a [Gate],
+        loads: &'a [u16],
+        outputs: &'a [u16],
+    ) -> Result<Gates<'a>, Refusal>
+        ensures { Made pins reset gates.now loads.now outputs.now result }
+    {
+        let pins = Pins::try_from(pins)?;
+        if loads.len() > 8 || outputs.is_empty() || outputs.len() > 32 {
+            return Err(Refusal::OutsideDeviceRules);
+        }
+        let nets = net_count(pins, gates, loads);
+        if nets > MOST_NETS
+            || reset >= state_count(loads.len())
+            || !gates_ordered(first_gate(pins, loads), gates)
+            || !name_nets(nets, loads)
+            || !name_nets(nets, outputs)
+        {
+            return Err(Refusal::OutsideDeviceRules);
+        }
+        Ok(Gates {
+            gates,
+            loads,
+            outputs,
+            pins,
+            reset,
+        })
+    }
+
     // Replaces the device by a gate list, or refuses it and changes nothing.
     pub fn take_in(
         &mut self,
@@ -19,27 +51,7 @@ impl<'a> Gates<'a> {
     ) -> Result<(), Refusal>
         ensures { TakenIn pins reset gates.now loads.now outputs.now self.old self.new result }
     {
-        let pins = Pins::try_from(pins)?;
-        if loads.len() > 8 || outputs.is_empty() || outputs.len() > 32 {
-            return Err(Refusal::OutsideDeviceRules);
-        }
-        let first = pins.count as usize + loads.len();
-        let nets = first + gates.len();
-        if nets > MOST_NETS
-            || reset >= state_count(loads.len())
-            || !gates_ordered(first, gates)
-            || !name_nets(nets, loads)
-            || !name_nets(nets, outputs)
-        {
-            return Err(Refusal::OutsideDeviceRules);
-        }
-        *self = Gates {
-            gates,
-            loads,
-            outputs,
-            pins,
-            reset,
-        };
+        *self = Gates::new(pins, reset, gates, loads, outputs)?;
         Ok(())
     }
 }

@@ -3,5 +3,5 @@ use Rattle.report.proofs.outcome.write_refusal.Goals as goal
 
 pub returns : goal.returns
 returns c =
-    rw (← c.number.ensures, ← c.side_word.ensures)
+    rw (← c.number.ensures, ← c.from.ensures, ← c.side_word.ensures)
     (adds_append c.push_all.ensures (adds_append c.push_decimal.ensures (adds_append c.push.ensures (adds_append c.push_all-2.ensures c.push_count.ensures))))

@@ -6,7 +6,7 @@ use Rattle.search.proofs.breadth_first.explore.Goals as goal
 use Rattle.search.proofs.breadth_first.explore.Goals.{In-Some-expand}
 
 same_walk : (g : Over) (c : In-Some-expand g) → c.expand.new.self.walk.now ≡ c.args.walk.now
-same_walk g c = ap (λ r. r.now) c.in-Some-expand.ensures.walk ∙ c.loop-at.invariant.walk
+same_walk g c = ap (λ r. r.now) c.in-Some-expand.ensures.continues.walk ∙ c.loop-at.invariant.walk
 
 pub returns-in-Some-expand-clause-explored : goal.returns-in-Some-expand-clause-explored
 returns-in-Some-expand-clause-explored g c =

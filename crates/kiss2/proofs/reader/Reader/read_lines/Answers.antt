@@ -40,7 +40,7 @@ loop-refusal-init c =
       inside = omega (arith, place);
       numbered = omega (arith, place, number);
       few_rows = omega (arith, number, none);
-      lent = record { text = refl; entries = refl; cells = refl; size = refl };
+      lent = record { same_names = record { text = refl; size = refl; slice = refl }; same_cells = record { size = refl; slice = refl } };
       seen = (nothing_seen, subst (From names.text.now nothing_seen) (sym e) refl, sound_nothing names.text.now, subst (λ (p : Progress). Holds t.cells.now names.entries.now p names.entries.now (filled t) nothing_seen) (sym c.requires.nothing) (holds_nothing t.cells.now names.entries.now t.given c.requires.ungiven));
     }
 
@@ -58,7 +58,7 @@ returns-in-Err-clause-read c =
     let t' = c.read_line.new.table in
     let is = ends text place c.line_length.result c.line_length.ensures.value in
     let s = inv.seen.0 in
-    let taken = of_text names.text.now text place _ n (progress r names t) names.entries.now (filled t) (Err c.in-Err.refusal) (progress r' names' t') names'.entries.now (filled t') (ap (λ (b : Bor (List ℕ)). b.now) inv.lent.text) c.in-Err.ensures.taken in
+    let taken = of_text names.text.now text place _ n (progress r names t) names.entries.now (filled t) (Err c.in-Err.refusal) (progress r' names' t') names'.entries.now (filled t') (ap (λ (b : Bor (List ℕ)). b.now) inv.lent.same_names.text) c.in-Err.ensures.taken in
     sym inv.seen.1 ∙ line_refused text place _ inv.inside is n s c.in-Err.refusal (taken c.args.table.now.cells.now c.args.names.now.entries.now s inv.seen.2 inv.seen.3)
 
 pub returns-then-end-text-clause-read : goal.returns-then-end-text-clause-read
@@ -75,7 +75,7 @@ returns-then-end-text-clause-read c =
     let t' = c.read_line.new.table in
     let is = ends text place c.line_length.result c.line_length.ensures.value in
     let s = inv.seen.0 in
-    let taken = of_text names.text.now text place _ n (progress r names t) names.entries.now (filled t) (Ok tt) (progress r' names' t') names'.entries.now (filled t') (ap (λ (b : Bor (List ℕ)). b.now) inv.lent.text) c.in_default.ensures.taken in
+    let taken = of_text names.text.now text place _ n (progress r names t) names.entries.now (filled t) (Ok tt) (progress r' names' t') names'.entries.now (filled t') (ap (λ (b : Bor (List ℕ)). b.now) inv.lent.same_names.text) c.in_default.ensures.taken in
     let x = taken c.args.table.now.cells.now c.args.names.now.entries.now s inv.seen.2 inv.seen.3 in
     (x.0, sym inv.seen.1 ∙ last_taken text place _ inv.inside is n s x.0 x.1 c.if-end-text.true, x.2, x.3)
 
@@ -94,7 +94,7 @@ loop-refusal-preserved c =
     let is = ends text place c.line_length.result c.line_length.ensures.value in
     let inside = line_ends text place _ inv.inside is in
     let s = inv.seen.0 in
-    let taken = of_text names.text.now text place _ n (progress r names t) names.entries.now (filled t) (Ok tt) (progress r' names' t') names'.entries.now (filled t') (ap (λ (b : Bor (List ℕ)). b.now) inv.lent.text) c.in_default.ensures.taken in
+    let taken = of_text names.text.now text place _ n (progress r names t) names.entries.now (filled t) (Ok tt) (progress r' names' t') names'.entries.now (filled t') (ap (λ (b : Bor (List ℕ)). b.now) inv.lent.same_names.text) c.in_default.ensures.taken in
     let x = taken c.args.table.now.cells.now c.args.names.now.entries.now s inv.seen.2 inv.seen.3 in
     let e = c.next-start.ensures in
     let place_is = ap (λ (x : LineStart). x.place) e in
@@ -103,6 +103,9 @@ loop-refusal-preserved c =
       inside = omega (arith, inside, c.if-end-text.false, place_is);
       numbered = omega (arith, inv.numbered, place_is, number_is);
       few_rows = omega (arith, inv.few_rows, c.read_line.ensures.more, number_is);
-      lent = record { text = c.read_line.ensures.lent.text ∙ inv.lent.text; entries = c.read_line.ensures.lent.entries ∙ inv.lent.entries; cells = c.read_line.ensures.lent.cells ∙ inv.lent.cells; size = c.read_line.ensures.lent.size ∙ inv.lent.size };
+      lent = record {
+        same_names = record { text = c.read_line.ensures.lent.same_names.text ∙ inv.lent.same_names.text; size = c.read_line.ensures.lent.same_names.size ∙ inv.lent.same_names.size; slice = c.read_line.ensures.lent.same_names.slice ∙ inv.lent.same_names.slice };
+        same_cells = record { size = c.read_line.ensures.lent.same_cells.size ∙ inv.lent.same_cells.size; slice = c.read_line.ensures.lent.same_cells.slice ∙ inv.lent.same_cells.slice };
+      };
       seen = (x.0, subst (From text x.0) (sym e) (sym (next_taken text place _ inv.inside is n s x.0 x.1 c.if-end-text.false) ∙ inv.seen.1), x.2, x.3);
     }

@@ -34,20 +34,24 @@ give_row-requires-clause-state c =
     let row : Row = c.args.row in
     current_small names.text.now (take names.count names.entries.now) (part_of c.states.result.0) (part_of c.states.result.1) names.entries.now (c.in_ok-current.current, c.in_ok-current.next) _ _ c.in_ok-current.ensures.enlisted
 
-pub returns-clause-taken : goal.returns-clause-taken
-returns-clause-taken c = λ old_cells old_names s sound holds.
-    let r = c.args.self.now in
-    let names = c.args.names.now in
-    let t = c.args.table.now in
-    let text = names.text.now in
-    let row : Row = c.args.row in
-    let m : ℕ × ℕ = (c.in_ok-current.current, c.in_ok-current.next) in
-    let narrow = input_width sound holds row.input.bytes.now row.current.bytes.now row.next.bytes.now row.output.bytes.now c.in_ok-check.ensures.fits in
-    let both = in_order text (take names.count names.entries.now) c.states.result.0 c.states.result.1 row.current row.next names.entries.now (Ok m) _ _ c.states.ensures.current c.states.ensures.next c.in_ok-current.ensures.enlisted in
-    let small = current_small text (take names.count names.entries.now) (part_of row.current) (part_of row.next) names.entries.now m _ _ both in
-    row_step text old_cells old_names (progress r names t) names.entries.now (filled t) s sound holds c.args.line (part_of row.input) (part_of row.current) (part_of row.next) (part_of row.output)
-    (ap (λ (h : Heading). h.ended) (sym holds.heading) ∙ c.requires.unended)
-    (c.requires.stands.input.inside, c.requires.stands.current.inside, c.requires.stands.next.inside, c.requires.stands.output.inside)
-    (by_parts text r.heading row c.requires.stands ∙ c.in_ok-check.ensures.fits)
-    m _ _ both row.input.bytes.now c.output_word.result c.requires.stands.input.bytes (c.output_word.ensures ∙ ap output_word c.requires.stands.output.bytes)
-    (omega (arith, cells_few (m.0 + 1) (length row.input.bytes.now) (omega (arith, small)) narrow, t.whole)) _ _ c.give_row.ensures.gave c.give_row.ensures.size
+pub returns : goal.returns
+returns c = record {
+  taken = λ old_cells old_names s sound holds.
+      let r = c.args.self.now in
+      let names = c.args.names.now in
+      let t = c.args.table.now in
+      let text = names.text.now in
+      let row : Row = c.args.row in
+      let m : ℕ × ℕ = (c.in_ok-current.current, c.in_ok-current.next) in
+      let narrow = input_width sound holds row.input.bytes.now row.current.bytes.now row.next.bytes.now row.output.bytes.now c.in_ok-check.ensures.fits in
+      let both = in_order text (take names.count names.entries.now) c.states.result.0 c.states.result.1 row.current row.next names.entries.now (Ok m) _ _ c.states.ensures.current c.states.ensures.next c.in_ok-current.ensures.enlisted in
+      let small = current_small text (take names.count names.entries.now) (part_of row.current) (part_of row.next) names.entries.now m _ _ both in
+      row_step text old_cells old_names (progress r names t) names.entries.now (filled t) s sound holds c.args.line (part_of row.input) (part_of row.current) (part_of row.next) (part_of row.output)
+      (ap (λ (h : Heading). h.ended) (sym holds.heading) ∙ c.requires.unended)
+      (c.requires.stands.input.inside, c.requires.stands.current.inside, c.requires.stands.next.inside, c.requires.stands.output.inside)
+      (by_parts text r.heading row c.requires.stands ∙ c.in_ok-check.ensures.fits)
+      m _ _ both row.input.bytes.now c.output_word.result c.requires.stands.input.bytes (c.output_word.ensures ∙ ap output_word c.requires.stands.output.bytes)
+      (omega (arith, cells_few (m.0 + 1) (length row.input.bytes.now) (omega (arith, small)) narrow, t.whole)) _ _ c.give_row.ensures.gave c.give_row.ensures.lent.size;
+  more = omega arith;
+  lent = record { same_names = c.number_both.ensures.lent; same_cells = c.give_row.ensures.lent };
+}

@@ -41,7 +41,7 @@ returns-then-not-is_visited-clause-tried g c =
     let more = room g at.Then-not-is_visited q_is in
     let less = sound.number_below _ q_is in
     let e = c.enter.ensures in
-    rw (e.walk, e.items, e.marks, e.tail) (new_step c.requires.tried sound c.in-Some.position c.requires.inside c.requires.lettered (leads g at.In-Some) c.if-not-is_visited.ensures (omega arith) (omega arith))
+    rw (e.continues.walk, e.items, e.marks, e.tail) (new_step c.requires.tried sound c.in-Some.position c.requires.inside c.requires.lettered (leads g at.In-Some) c.if-not-is_visited.ensures (omega arith) (omega arith))
 
 pub returns-else-not-is_visited-clause-tried : goal.returns-else-not-is_visited-clause-tried
 returns-else-not-is_visited-clause-tried g c =
