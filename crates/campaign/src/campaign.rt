@@ -43,7 +43,7 @@ impl<D: Device> Campaign<D> {
     }
 
     // Judges an open fault: the number of the least sequence that distinguishes it from the good machine, which is kept with the fault as its origin, or none where the fault is undetectable.
-    // The work slices have an entry for each pair of states; what they hold does not matter and is lost.
+    // The work slices, two as at `search::shortest`, have an entry for each pair of states; what they hold does not matter and is lost.
     pub fn judge(
         &mut self,
         fault: u16,

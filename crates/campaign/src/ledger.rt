@@ -3,13 +3,14 @@ ghost use Rattle.campaign.specs.declared.ledger.TheConstants.{LETTERS};
 
 use super::mark::Mark;
 use arrayvec::ArrayVec;
+use machine::MOST_FAULTS;
 
 // As many sequences as a ledger keeps, as many letters as they have together, and as many members as a device can have.
 pub(crate) const SEQUENCES: usize = 256;
 
 pub(crate) const LETTERS: usize = 16384;
 
-pub(crate) const MEMBERS: usize = 1025;
+pub(crate) const MEMBERS: usize = MOST_FAULTS + 1;
 
 // Where a kept sequence lies among the letters, and the fault that it was found for, if a client did not bring it.
 #[derive(Clone, Copy, PartialEq, Eq, Debug)]

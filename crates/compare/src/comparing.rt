@@ -21,6 +21,7 @@ fn search_product<D: Device>(
 }
 
 // Searches for the least sequence that distinguishes two members, which goes into `letters`. Where none does, the visits are left as the reachable pairs.
+// Work slices are two, as at `shortest`.
 pub fn search_pairs<D: Device>(
     device: &D,
     first: u16,
@@ -67,7 +68,7 @@ fn list_pairs(visits: &[Visit<Pair>], pairs: &mut [Pair]) -> Result<(), Refusal>
 }
 
 // Compares two members: the least sequence that distinguishes them goes into `letters`, or, where none does, the reachable pairs into `pairs`.
-// The work slices `visits` and `marks` have an entry for each pair of states; what they hold does not matter and is lost.
+// The work slices `visits` and `marks`, two as at `shortest`, have an entry for each pair of states; what they hold does not matter and is lost.
 pub fn compare<D: Device>(
     device: &D,
     first: u16,

@@ -1,16 +1,21 @@
-ghost use Rattle.std.specs.Prelude.{◌*◌, ◌≤◌, length};
+ghost use Rattle.std.specs.Prelude.{◌≡◌, ◌*◌, ◌≤◌, length};
+ghost use Rattle.compare.specs.Checks.{pair_inside};
 
 use super::product::pair_number;
-use machine::{Pair, Refusal};
+use machine::{MOST_PAIRS, Pair, Refusal};
 
-// As many pairs of states as a device can have.
-const PAIRS: usize = 65536;
+// Whether both states of the pair are below the count.
+fn is_inside(states: u16, pair: Pair) -> bool
+    ensures { result ≡ pair_inside states pair }
+{
+    pair.first < states && pair.second < states
+}
 
 // A set of pairs of states: a mark for the number of each, in an array, as libraries use no heap.
 #[derive(Drop)]
 pub(crate) struct PairSet {
     states: u16,
-    marked: [bool; PAIRS],
+    marked: [bool; MOST_PAIRS],
     ghost room: { states * states ≤ length marked },
 }
 
@@ -27,7 +32,7 @@ impl PairSet {
     {
         PairSet {
             states,
-            marked: [false; PAIRS],
+            marked: [false; MOST_PAIRS],
         }
     }
 
@@ -44,7 +49,7 @@ impl PairSet {
         ensures states { self.new.states ≡ self.old.states }
         ensures more { OnOk result ((ps : List Pair) → IsSetOf ps self.old → IsSetOf (ps ++ pair ∷ []) self.new) }
     {
-        if pair.first >= self.states || pair.second >= self.states {
+        if !is_inside(self.states, pair) {
             return Err(Refusal::OutOfRange);
         }
         self.marked[pair_number(self.states, pair)] = true;

@@ -3,14 +3,14 @@ ghost use Rattle.compare.specs.Comparisons.{Members};
 ghost use Rattle.compare.specs.Soundness.{pair_sound};
 ghost use Rattle.compare.specs.Walks.{pair_graph, pair_number, PairInside};
 
-use machine::{Device, Pair, Refusal, outputs_differ};
+use machine::{Device, Pair, Refusal, outputs_differ, row_major};
 use search::Walk;
 
 // The number of a pair of states: pairs of states below the count have different numbers.
 pub(crate) fn pair_number(states: u16, pair: Pair) -> usize
     ensures { result ≡ pair_number states pair }
 {
-    usize::from(pair.first) * usize::from(states) + usize::from(pair.second)
+    row_major(states, pair.first, pair.second)
 }
 
 // The product machine of two members, from their resets: a position is a pair of states, and unequal outputs are the goal.

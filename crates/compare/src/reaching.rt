@@ -20,7 +20,7 @@ fn search_states<D: Device>(
 }
 
 // Reaches a state of a member: the length of the least sequence that leads there from reset, which goes into `letters` and is empty for the reset state; or none, where no sequence does.
-// The work slices `visits` and `marks` have an entry for each state; what they hold does not matter and is lost.
+// The work slices `visits` and `marks`, two as at `shortest`, have an entry for each state; what they hold does not matter and is lost.
 pub fn reach<D: Device>(
     device: &D,
     member: u16,

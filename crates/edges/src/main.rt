@@ -325,9 +325,8 @@ fn try_last_letter(rt: &impl Print) -> io::Result<()> {
         output: 6,
         ..FIRST
     }];
-    let mut table = Table::idle();
-    match table.take_in(6, 1, 0, &cells, &altered) {
-        Ok(()) => {
+    match Table::new(6, 1, 0, &cells, &altered) {
+        Ok(table) => {
             try_replay(rt, &table, 0, 1, &[62, 63])?;
             try_replay(rt, &table, 0, 1, &[62, 64])
         }
@@ -435,9 +434,8 @@ fn try_reach(rt: &impl Print, table: &Table, case: Reaching) -> io::Result<()> {
 // A state that no letter leads to.
 fn try_unreachable(rt: &impl Print) -> io::Result<()> {
     let cells = [Cell { next: 0, output: 0 }; 4];
-    let mut table = Table::idle();
-    match table.take_in(1, 2, 0, &cells, &[]) {
-        Ok(()) => try_reach(
+    match Table::new(1, 2, 0, &cells, &[]) {
+        Ok(table) => try_reach(
             rt,
             &table,
             Reaching {

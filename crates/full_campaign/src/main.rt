@@ -120,7 +120,7 @@ impl<'a, R: Print + AllocGlobal> Bench<'a, R> {
     }
 }
 
-// How many faults have a mark of a kind.
+// How many faults have a mark of a kind. Here and in `gate_lists`: a public function that is handed a test would need a `requires`, which no public call has.
 fn count<D: Device, F: Fn(Mark) -> bool>(campaign: &Campaign<D>, members: u16, is_kind: F) -> usize
     requires { F.IsAlwaysCallable is_kind }
 {
@@ -144,8 +144,7 @@ fn main(rt: HostRuntime) -> anyhow::Result<()> {
     bench.run("controller", controller())?;
     let cells = made_cells(rt.alloc())?;
     let faults = made_faults(rt.alloc())?;
-    let mut larger = Table::idle();
-    if larger.take_in(3, STATES, 0, &cells, &faults).is_ok() {
+    if let Ok(larger) = Table::new(3, STATES, 0, &cells, &faults) {
         bench.run("made by rule", larger)?;
     }
     Ok(())

@@ -70,23 +70,6 @@ const ADDER_CELLS: [Cell; 8] = [
     Cell { next: 1, output: 1 },
 ];
 
-fn taken_in<'a>(
-    pins: u8,
-    gates: &'a [Gate],
-    loads: &'a [u16],
-    outputs: &'a [u16],
-) -> Result<Gates<'a>, Refusal> {
-    let mut device = Gates::idle();
-    device.take_in(pins, 0, gates, loads, outputs)?;
-    Ok(device)
-}
-
-fn adder_table(cells: &[Cell]) -> Result<Table<'_>, Refusal> {
-    let mut table = Table::idle();
-    table.take_in(2, 2, 0, cells, &[])?;
-    Ok(table)
-}
-
 // Where the answers are printed, and the memory that the searches work in. It is on the heap, so no library lends it.
 #[derive(Drop)]
 struct Bench<'a, R> {
@@ -166,11 +149,11 @@ impl<'a, R: Print + AllocGlobal> Bench<'a, R> {
     // A table or list that is refused would leave the idle device.
     fn show_piles(&mut self) -> io::Result<()> {
         let gates = adder();
-        let gates = taken_in(2, &gates, &[7], &[4]).unwrap_or(Gates::idle());
+        let gates = Gates::new(2, 0, &gates, &[7], &[4]).unwrap_or(Gates::idle());
         let mut wrong_cells = ADDER_CELLS;
         wrong_cells[7].output = 0;
-        let table = adder_table(&ADDER_CELLS).unwrap_or(Table::idle());
-        let wrong_table = adder_table(&wrong_cells).unwrap_or(Table::idle());
+        let table = Table::new(2, 2, 0, &ADDER_CELLS, &[]).unwrap_or(Table::idle());
+        let wrong_table = Table::new(2, 2, 0, &wrong_cells, &[]).unwrap_or(Table::idle());
         let same = Rivals::new(table, gates);
         let wrong = Rivals::new(wrong_table, gates);
         let pile = Observed::new(Tied::new(wrong, 3, 0), 1);
@@ -185,7 +168,7 @@ impl<'a, R: Print + AllocGlobal> Bench<'a, R> {
     }
 }
 
-// How many faults have a mark of a kind.
+// How many faults have a mark of a kind. Here and in `full_campaign`: a public function that is handed a test would need a `requires`, which no public call has.
 fn count<D: Device, F: Fn(Mark) -> bool>(campaign: &Campaign<D>, members: u16, is_kind: F) -> usize
     requires { F.IsAlwaysCallable is_kind }
 {
@@ -194,7 +177,7 @@ fn count<D: Device, F: Fn(Mark) -> bool>(campaign: &Campaign<D>, members: u16, i
         .count()
 }
 
-// Prints a kept sequence: how many letters it has.
+// Prints a kept sequence: how many letters it adds to the sum, none where it cannot be read out.
 fn show_sequence<D: Device>(
     rt: &impl Print,
     campaign: &Campaign<D>,
@@ -233,8 +216,9 @@ fn show_steps(rt: &impl Print, device: &impl Device) -> io::Result<()> {
 // The steps of a list with 512 nets and eight flip-flops.
 fn steps(rt: &(impl Print + AllocGlobal)) -> anyhow::Result<()> {
     let gates = many_gates(rt.alloc())?;
-    match taken_in(
+    match Gates::new(
         6,
+        0,
         &gates,
         &[504, 505, 506, 507, 508, 509, 510, 511],
         &[500, 501, 502, 503],
@@ -247,10 +231,13 @@ fn steps(rt: &(impl Print + AllocGlobal)) -> anyhow::Result<()> {
 
 fn main(rt: HostRuntime) -> anyhow::Result<()> {
     let mut bench = Bench::new(&rt)?;
-    bench.run_gates("serial adder", taken_in(2, &adder(), &[7], &[4]))?;
-    bench.run_gates("counter", taken_in(1, &counter(), &[5, 7, 9, 11], &[12]))?;
-    bench.run_gates("detector", taken_in(1, &detector(), &[6, 3], &[5]))?;
-    bench.run_gates("redundant net", taken_in(2, &redundant(), &[], &[3]))?;
+    bench.run_gates("serial adder", Gates::new(2, 0, &adder(), &[7], &[4]))?;
+    bench.run_gates(
+        "counter",
+        Gates::new(1, 0, &counter(), &[5, 7, 9, 11], &[12]),
+    )?;
+    bench.run_gates("detector", Gates::new(1, 0, &detector(), &[6, 3], &[5]))?;
+    bench.run_gates("redundant net", Gates::new(2, 0, &redundant(), &[], &[3]))?;
     bench.show_piles()?;
     steps(&rt)?;
     println!(rt; "{} worked cases hold", worked_cases())?;

@@ -87,9 +87,11 @@ fault_settled nets n gs o room a h l =
     ∙ ap (λ (ns : List Bool). with_gates 0 (set ns net v) (drop k gs)) (front_is nets n gs o room k few)
     ∙ sym split
 
--- the pins and the flip-flops are written one after the other
-pub sources_are : (before pinned nets : List Bool) (pins flip_flops letter state : ℕ) → take (0 + pins) pinned ≡ take 0 before ++ bits pins letter → take (pins + flip_flops) nets ≡ take pins pinned ++ bits flip_flops state →
+-- the pins and the flip-flops are written one after the other, each number as it was converted
+pub sources_are : (before pinned nets : List Bool) (pins p flip_flops letter l state : ℕ) → p ≡ pins → l ≡ letter → take (0 + p) pinned ≡ take 0 before ++ bits p l → take (p + flip_flops) nets ≡ take p pinned ++ bits flip_flops state →
     take (pins + flip_flops) nets ≡ bits pins letter ++ bits flip_flops state
-sources_are before pinned nets pins flip_flops letter state first second =
-    let e : pins ≡ 0 + pins = omega arith in
-    second ∙ ap (λ (ns : List Bool). ns ++ bits flip_flops state) (ap (λ (n : ℕ). take n pinned) e ∙ first)
+sources_are before pinned nets pins p flip_flops letter l state same_pins same_letter first second =
+    let e : p ≡ 0 + p = omega arith in
+    let converted : take (p + flip_flops) nets ≡ bits p l ++ bits flip_flops state = second ∙ ap (λ (ns : List Bool). ns ++ bits flip_flops state) (ap (λ (n : ℕ). take n pinned) e ∙ first) in
+    subst (λ (x : ℕ). take (x + flip_flops) nets ≡ bits x letter ++ bits flip_flops state) same_pins
+    (subst (λ (y : ℕ). take (p + flip_flops) nets ≡ bits p y ++ bits flip_flops state) same_letter converted)

@@ -9,6 +9,7 @@ use crate::gate::Gate;
 pub(crate) const MOST_NETS: usize = 512;
 
 // The value of each net, in an array, as libraries use no heap; those past the last net mean nothing.
+// That a number names a net is asked at each call: numbers are the caller's `u16`, and a type of its own would be made from each at every reading.
 #[derive(Drop)]
 pub(crate) struct Nets {
     values: [bool; MOST_NETS],

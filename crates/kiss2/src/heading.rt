@@ -12,7 +12,7 @@ use machine::Refusal;
 // The largest count that five digits write.
 const LARGEST_COUNT: u32 = 99999;
 
-// What the directives have said so far.
+// What the directives have said so far. A flag tells the end, and no enum the stage: that rows have begun is told by their count, which is kept anyway.
 #[derive(Clone, Copy, PartialEq, Eq, Debug, Default)]
 pub(crate) struct Heading {
     pub(crate) inputs: Option<u8>,

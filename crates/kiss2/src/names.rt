@@ -6,10 +6,7 @@ ghost use Rattle.kiss2.specs.Rows.{number_among};
 ghost use Rattle.kiss2.specs.Texts.{Stands, bytes_of, part_of};
 
 use crate::part::{Part, Word};
-use machine::Refusal;
-
-// As many states as a table may have.
-pub(crate) const STATES: usize = 256;
+use machine::{MOST_STATES, Refusal};
 
 // Whether the part of the text has these bytes.
 fn is_name(text: &[u8], part: Part, name: &[u8]) -> bool
@@ -62,11 +59,10 @@ impl<'t, 'a> Names<'t, 'a> {
             return Ok(number as u16);
         }
         let number = self.count;
-        let place = usize::from(number);
-        if place == STATES {
+        if number == MOST_STATES {
             return Err(Refusal::BadName);
         }
-        self.entries[place] = word.part();
+        self.entries[usize::from(number)] = word.part();
         self.count += 1;
         Ok(number)
     }

@@ -2,13 +2,13 @@ ghost use Rattle.std.specs.Prelude.{◌↔◌, ◌<◌, length, IsTrue};
 ghost use Rattle.kiss2.specs.Concluding.{Read};
 
 use crate::filling::{CELLS, Filling};
-use crate::names::{Names, STATES};
+use crate::names::Names;
 use crate::part::Part;
 use crate::reader::Reader;
 use crate::refused::Refused;
 use crate::shape::Shape;
 use devices::Cell;
-use machine::Refusal;
+use machine::{MOST_STATES, Refusal};
 
 // As many bytes as a text may have.
 const TEXT: usize = 16384;
@@ -25,7 +25,7 @@ fn is_too_long(text: &[u8]) -> bool
 pub fn read(text: &[u8], cells: &mut [Cell], names: &mut [Part]) -> Result<Shape, Refused>
     ensures { Read text.now cells.old names.old result cells.new names.new }
 {
-    if names.len() < STATES {
+    if names.len() < usize::from(MOST_STATES) {
         return Err(Refusal::WorkTooShort.into());
     }
     if is_too_long(text) {

@@ -2,6 +2,8 @@
 #![tactic(auto)]
 
 mod device;
+mod limits;
+mod numbering;
 mod output;
 mod pair;
 mod pins;
@@ -9,6 +11,8 @@ mod range;
 mod refusal;
 
 pub use device::Device;
+pub use limits::{MOST_FAULTS, MOST_PAIRS, MOST_STATES};
+pub use numbering::row_major;
 pub use output::outputs_differ;
 pub use pair::Pair;
 pub use pins::Pins;

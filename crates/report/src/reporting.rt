@@ -11,7 +11,7 @@ use search::Visit;
 
 // Reads two state tables, compares them and writes the report into the first bytes of `report`: how many there are. A report that does not fit is refused, and the slice is as it was.
 // It tells a refusal, with the text and the line at fault; or the least sequence of letters that distinguishes the tables; or that there is none, with the names of every reachable pair of states.
-// What the other slices hold does not matter and is lost.
+// What the other slices hold does not matter and is lost. Each is a parameter, as the work slices at `search::shortest`: a struct would have the contract say that the caller's slices are still inside.
 pub fn report<'a>(
     good: &'a [u8],
     faulty: &'a [u8],

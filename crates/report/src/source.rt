@@ -44,11 +44,7 @@ impl<'a> Source<'a> {
     pub(crate) fn table(self) -> Table<'a>
         ensures { machine_of result ≡ text_machine (held self.entry) }
     {
-        let mut table = Table::idle();
         let shape = self.shape;
-        table
-            .take_in(shape.inputs, shape.states, shape.reset, self.cells, &[])
-            .unwrap();
-        table
+        Table::new(shape.inputs, shape.states, shape.reset, self.cells, &[]).unwrap()
     }
 }

@@ -9,11 +9,8 @@ use crate::sequence::Sequence;
 use crate::source::Source;
 use compare::search_pairs;
 use layers::Rivals;
-use machine::{Pair, Refusal};
+use machine::{MOST_PAIRS, Pair, Refusal};
 use search::{Found, SearchError, Visit};
-
-// As many letters as a least sequence can have: one for each pair of states.
-const MOST_LETTERS: usize = 65536;
 
 // Two state tables that are set side by side.
 #[derive(Clone, Copy)]
@@ -54,8 +51,8 @@ impl Tables<'_, '_> {
     ) -> Result<usize, Refusal>
         ensures { Reported (Compared (machines_of self.now) self.now.good.shape.inputs (names_held self.now) (length visits.old) (length marks.old)) report.old result report.new }
     {
-        // An array, as libraries use no heap.
-        let mut letters = [0; MOST_LETTERS];
+        // An array, as libraries use no heap. A least sequence has at most a letter for each pair of states.
+        let mut letters = [0; MOST_PAIRS];
         match self.search(visits, marks, &mut letters) {
             Ok(Found::Goal { length }) => {
                 let sequence = Sequence {

@@ -3,29 +3,26 @@
 
 use compare::{Verdict, check, compare};
 use devices::{AlteredCell, Cell, Table};
-use machine::Pair;
+use machine::{MOST_PAIRS, MOST_STATES, Pair};
 use search::Visit;
 use std::alloc::{AllocError, Global};
 use std::io;
 
-const STATES: u16 = 256;
-
 const LETTERS: u8 = 64;
-
-const PAIRS: usize = 65536;
 
 // Where a letter leads: each letter permutes the states, and letters 0 and 1 alone lead any two states to any two others.
 fn next(state: u16, letter: u8) -> u16 {
     match letter {
-        0 => state.wrapping_add(1) % STATES,
+        0 => state.wrapping_add(1) % MOST_STATES,
         1 if state < 2 => 1 - state,
-        1 => state % STATES,
-        _ => state.wrapping_mul(u16::from(letter).wrapping_mul(2).wrapping_add(1)) % STATES,
+        1 => state % MOST_STATES,
+        _ => state.wrapping_mul(u16::from(letter).wrapping_mul(2).wrapping_add(1)) % MOST_STATES,
     }
 }
 
+// By a chain of its own, as in `full_campaign`: a public function that is handed the rule would need a `requires`, which no public call has.
 fn cells(heap: Global) -> Result<Vec<Cell>, AllocError> {
-    (0..STATES)
+    (0..MOST_STATES)
         .flat_map(|state| {
             (0..LETTERS).map(move |letter| Cell {
                 next: next(state, letter),
@@ -63,10 +60,10 @@ fn show_check(rt: &impl Print, table: &Table, second: u16, pairs: &[Pair]) -> io
 // Compares the good table with a faulty one, and checks the pairs that were found.
 fn show(rt: &(impl Print + AllocGlobal), table: &Table, second: u16) -> anyhow::Result<()> {
     let heap = rt.alloc();
-    let mut visits = vec![in heap; Visit::default(); PAIRS]?;
-    let mut marks = vec![in heap; 0; PAIRS]?;
-    let mut letters = vec![in heap; 0; PAIRS]?;
-    let mut pairs = vec![in heap; Pair::default(); PAIRS]?;
+    let mut visits = vec![in heap; Visit::default(); MOST_PAIRS]?;
+    let mut marks = vec![in heap; 0; MOST_PAIRS]?;
+    let mut letters = vec![in heap; 0; MOST_PAIRS]?;
+    let mut pairs = vec![in heap; Pair::default(); MOST_PAIRS]?;
     match compare(
         table,
         0,
@@ -89,10 +86,13 @@ fn show(rt: &(impl Print + AllocGlobal), table: &Table, second: u16) -> anyhow::
 
 fn main(rt: HostRuntime) -> anyhow::Result<()> {
     let cells = cells(rt.alloc())?;
-    let mut table = Table::idle();
-    if let Err(refusal) = table.take_in(6, STATES, 0, &cells, &ALTERED) {
-        println!(rt; "the table is refused by {}", refusal.number())?;
-    }
+    let table = match Table::new(6, MOST_STATES, 0, &cells, &ALTERED) {
+        Ok(table) => table,
+        Err(refusal) => {
+            println!(rt; "the table is refused by {}", refusal.number())?;
+            Table::idle()
+        }
+    };
     show(&rt, &table, 1)?;
     show(&rt, &table, 2)
 }

@@ -53,7 +53,7 @@ impl<'a, W: Walk> Search<'a, W> {
         list.push(visit);
     }
 
-    // Tries one letter at a visit: true where it meets the goal. A new position is entered as soon as it is found.
+    // Tries one letter at a visit: whether it meets the goal, of which there is no more to tell. A new position is entered as soon as it is found.
     fn try_letter(&mut self, list: &mut Worklist<Visit<W::Position>>, at: usize, letter: u8) -> bool
         requires room { (W.graph self.old.walk.now).count ≤ length list.old.items.now }
         requires tried { HasTried self.old list.old at letter }

@@ -1,4 +1,4 @@
-ghost use Rattle.std.specs.Prelude.{◌≡◌, ℕ, ◌+◌, ◌<◌, [], ◌∷◌, ◌++◌, length};
+ghost use Rattle.std.specs.Prelude.{◌≡◌, ℕ, ◌+◌, ◌<◌, ◌≤◌, [], ◌∷◌, ◌++◌, length, IfOk};
 ghost use Rattle.search.specs.Answers.{Written};
 ghost use Rattle.search.specs.Visits.{path, Chained};
 
@@ -28,7 +28,8 @@ pub(crate) fn write_path<P: Copy>(
 ) -> Result<usize, SearchError>
     requires inside { at < length visits.now }
     requires chained { Chained visits.now (at + 1) }
-    ensures { Written (path visits.now at ++ last ∷ []) answer.old result answer.new }
+    ensures written { Written (path visits.now at ++ last ∷ []) answer.old result answer.new }
+    ensures few { IfOk result (λ n. n ≤ at + 1) }
 {
     let length = BackLinks { visits, at }.count() + 1;
     if answer.len() < length {

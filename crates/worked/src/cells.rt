@@ -45,7 +45,5 @@ const ALTERED: [AlteredCell; 3] = [
 pub fn controller() -> Table<'static>
     ensures { machine_of result ≡ controller }
 {
-    let mut table = Table::idle();
-    table.take_in(1, 4, 0, &CELLS, &ALTERED).unwrap();
-    table
+    Table::new(1, 4, 0, &CELLS, &ALTERED).unwrap()
 }

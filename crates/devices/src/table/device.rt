@@ -6,14 +6,7 @@ ghost use Rattle.devices.specs.Soundness.{table_sound};
 
 use crate::cell::{AlteredCell, Cell};
 use crate::table::Table;
-use machine::{Device, within};
-
-// The place of the cell of a state and a letter.
-fn place(letters: u8, state: u16, letter: u8) -> usize
-    ensures { result ≡ state * letters + letter }
-{
-    usize::from(state) * usize::from(letters) + usize::from(letter)
-}
+use machine::{Device, row_major, within};
 
 impl<'a> Table<'a> {
     // The good cell of a state and a letter in range.
@@ -22,7 +15,8 @@ impl<'a> Table<'a> {
         requires letter { letter < self.now.letters }
         ensures { result ≡ good_cell self.now.letters self.now.cells.now state letter }
     {
-        self.cells[place(self.letters, state, letter)]
+        let letters = u16::from(self.letters);
+        self.cells[row_major(letters, state, u16::from(letter))]
     }
 
     // The altered cell of a member that is a fault.

@@ -3,7 +3,7 @@ ghost use Rattle.devices.specs.TakingIn.{Made, TakenIn};
 use crate::cell::{AlteredCell, Cell};
 use crate::ranges::{altered_inside, cells_inside};
 use crate::table::Table;
-use machine::{Pins, Refusal};
+use machine::{MOST_FAULTS, MOST_STATES, Pins, Refusal};
 
 impl<'a> Table<'a> {
     // The table of these cells, with 2 to the power of pins letters, where it keeps the rules.
@@ -17,7 +17,7 @@ impl<'a> Table<'a> {
         ensures { Made pins states reset cells.now altered.now result }
     {
         let pins = Pins::try_from(pins)?;
-        if states < 1 || states > 256 || reset >= states {
+        if states < 1 || states > MOST_STATES || reset >= states {
             return Err(Refusal::OutsideDeviceRules);
         }
         let letters = pins.letters();
@@ -28,7 +28,7 @@ impl<'a> Table<'a> {
         if !cells_inside(states, &cells[..count]) {
             return Err(Refusal::OutsideDeviceRules);
         }
-        if altered.len() > 1024 || !altered_inside(letters, states, altered) {
+        if altered.len() > MOST_FAULTS || !altered_inside(letters, states, altered) {
             return Err(Refusal::BadAlteredCell);
         }
         Ok(Table {

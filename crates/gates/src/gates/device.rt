@@ -25,8 +25,8 @@ impl<'a> Gates<'a> {
         requires { member < (machine_of self.now).members }
         ensures { take (nets_of self.now) nets.new.values ≡ values_of self.now member state letter }
     {
-        let pins = self.pins.count as usize;
-        nets.write_bits(0, pins, letter as u16);
+        let pins = usize::from(self.pins.count);
+        nets.write_bits(0, pins, u16::from(letter));
         nets.write_bits(pins, self.loads.len(), state);
         let pass = Pass {
             first: first_gate(self.pins, self.loads),

@@ -22,5 +22,5 @@ returns c =
     let x = c.in_ok-read_lines.ensures.read in
     let same = c.read_lines.ensures.lent.same_names.text in
     same_read text c.args.cells.now c.args.names.now c.conclude.result _ t.cells.now _ names.entries.now
-    (read_is text c.args.cells.now c.args.names.now (progress r names t) names.entries.now (filled t) x.0 x.2 x.3 x.1 c.if-names-lt-STATES.false (omega (arith, names.short, ap (λ (b : Bor (List ℕ)). length b.now) same)) t.whole c.read_lines.ensures.lent.same_cells.size c.conclude.result (c.conclude.ensures ∙ ap (λ (b : Bor (List ℕ)). shape_held b.now (progress r names t) names.entries.now (length t.cells.now) t.given) same))
+    (read_is text c.args.cells.now c.args.names.now (progress r names t) names.entries.now (filled t) x.0 x.2 x.3 x.1 (omega (arith, c.if-names-from.false, c.from.ensures)) (omega (arith, names.short, ap (λ (b : Bor (List ℕ)). length b.now) same)) t.whole c.read_lines.ensures.lent.same_cells.size c.conclude.result (c.conclude.ensures ∙ ap (λ (b : Bor (List ℕ)). shape_held b.now (progress r names t) names.entries.now (length t.cells.now) t.given) same))
     (search rules) (search rules)

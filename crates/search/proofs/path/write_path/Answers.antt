@@ -22,3 +22,6 @@ pub write_back-requires : goal.write_back-requires
 write_back-requires g c =
     let n = counted g (goal.at.write_back-requires g c).After-count-length in
     omega (arith, length-take-le (c.count-length.result + 1) c.args.answer.now (omega arith))
+
+pub returns-clause-few : goal.returns-clause-few
+returns-clause-few g c = omega (arith, counted g (goal.at.returns-clause-few g c).After-count-length, path_short c.args.visits.now c.args.at)

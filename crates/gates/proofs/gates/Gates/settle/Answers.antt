@@ -9,7 +9,7 @@ returns-in-None c =
     let first : ℕ = c.args.self.now.pins.count + length c.args.self.now.loads.now in
     let gs = c.args.self.now.gates.now in
     let nets = c.write_bits-2.new.self.values in
-    let sources = sources_are c.args.nets.now.values c.write_bits.new.self.values nets c.args.self.now.pins.count (length c.args.self.now.loads.now) c.args.letter c.args.state c.write_bits.ensures c.write_bits-2.ensures in
+    let sources = sources_are c.args.nets.now.values c.write_bits.new.self.values nets c.args.self.now.pins.count c.from-pins.result (length c.args.self.now.loads.now) c.args.letter c.from.result c.args.state c.from-pins.ensures c.from.ensures c.write_bits.ensures c.write_bits-2.ensures in
     let room : first + length gs ≤ length nets = omega (arith, c.args.self.now.few_nets, c.write_bits-2.new.self.long) in
     ap (λ (ns : List Bool). take (first + length gs) ns) (c.evaluate.ensures ∙ ap (λ (n : ℕ). passed nets n gs) c.first_gate.ensures)
     ∙ good_settled nets first gs c.args.self.now.in_order room
@@ -21,7 +21,7 @@ returns-in-Some c =
     let first : ℕ = c.args.self.now.pins.count + length c.args.self.now.loads.now in
     let gs = c.args.self.now.gates.now in
     let nets = c.write_bits-2.new.self.values in
-    let sources = sources_are c.args.nets.now.values c.write_bits.new.self.values nets c.args.self.now.pins.count (length c.args.self.now.loads.now) c.args.letter c.args.state c.write_bits.ensures c.write_bits-2.ensures in
+    let sources = sources_are c.args.nets.now.values c.write_bits.new.self.values nets c.args.self.now.pins.count c.from-pins.result (length c.args.self.now.loads.now) c.args.letter c.from.result c.args.state c.from-pins.ensures c.from.ensures c.write_bits.ensures c.write_bits-2.ensures in
     let room : first + length gs ≤ length nets = omega (arith, c.args.self.now.few_nets, c.write_bits-2.new.self.long) in
     let faulty : 0 < c.args.member = grind (arith, c.in-Some.ensures.good.1) in
     ap (λ (ns : List Bool). take (first + length gs) ns) (c.evaluate_held.ensures ∙ ap (λ (n : ℕ). passed_held nets n gs c.in-Some.stuck.net c.in-Some.stuck.value) c.first_gate.ensures)

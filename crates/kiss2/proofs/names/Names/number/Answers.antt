@@ -14,5 +14,5 @@ returns-clause-enlisted c =
     let p = part_of c.args.word in
     let long = length-take-le n entries (omega arith) in
     let number = number_new text (take n entries) (bytes_of text p) (ap (number_among text (take n entries)) (sym c.requires.bytes) ∙ sym c.number_of.ensures ∙ c.in_default.is) ∙ long in
-    let new = entries_new text entries n p (take n entries) refl (omega (arith, c.if-place-eq-STATES.false, c.from-place.ensures)) number in
-    (sym number, (new.0.0, ap (λ (k : ℕ). set entries k c.part.result) c.from-place.ensures ∙ ap (set entries n) c.part.ensures ∙ new.0.1), new.1, omega (arith, c.if-place-eq-STATES.false, c.from-place.ensures))
+    let new = entries_new text entries n p (take n entries) refl (omega (arith, c.if-number-eq-MOST_STATES.false)) number in
+    (sym number, (new.0.0, ap (λ (k : ℕ). set entries k c.part.result) c.from.ensures ∙ ap (set entries n) c.part.ensures ∙ new.0.1), new.1, omega (arith, c.if-number-eq-MOST_STATES.false))

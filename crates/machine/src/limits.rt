@@ -1,0 +1,7 @@
+// The limits of devices, once for all crates. Specs and clauses write the numbers themselves, so that a wrong one here is refused.
+pub const MOST_FAULTS: usize = 1024;
+
+pub const MOST_STATES: u16 = 256;
+
+// How many pairs of states there are: as many letters as a least sequence can have.
+pub const MOST_PAIRS: usize = 65536;
