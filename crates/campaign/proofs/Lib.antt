@@ -6,3 +6,4 @@ pub mod Held
 pub mod Steps
 pub mod Laws
 pub mod Once
+pub mod Tallied

@@ -4,3 +4,4 @@ pub mod Standings
 pub mod Rules
 pub mod Ledgers
 pub mod Histories
+pub mod Tallies

@@ -40,6 +40,7 @@ impl Ledger {
     {
         let kept = self.look_up(n).ok_or(Refusal::NoSuchSequence)?;
         paste(buffer, place, self.sequence(kept))?;
+        // Clients read origin 0 for a sequence of their own.
         Ok((kept.length, kept.origin.unwrap_or(0)))
     }
 }

@@ -1,13 +1,16 @@
 ghost use Rattle.std.specs.Prelude.{◌≡◌, length};
 ghost use Rattle.campaign.specs.Histories.{KeptOnce, Lawful};
 ghost use Rattle.campaign.specs.Rules.{Admitted, Fresh, Judged, ReadOut, marked};
+ghost use Rattle.campaign.specs.Tallies.{faults_marked, is_found, is_open, is_undetectable};
 
-use super::judging::is_fault;
+use super::judging::{faults, is_fault};
 use super::ledger::Ledger;
 use super::mark::Mark;
+use super::tally::Tally;
 use machine::{Device, Pair, Refusal};
 use search::Visit;
 use std::marker::Model;
+use std::ops::Range;
 
 // A device with its fault list: where each fault stands, and the sequences that were kept.
 // The work is the ledger's methods', which are lent the device: what they write lies in the ledger alone, and so do the invariants that a write has to keep.
@@ -42,6 +45,14 @@ impl<D: Device> Campaign<D> {
         }
     }
 
+    // The numbers of the device's faults.
+    pub fn faults(&self) -> Range<u16>
+        ensures start { result.start ≡ 1 }
+        ensures end { result.end ≡ (D.meaning self.now.device).members }
+    {
+        faults(&self.device)
+    }
+
     // Judges an open fault: the number of the least sequence that distinguishes it from the good machine, which is kept with the fault as its origin, or none where the fault is undetectable.
     // The work slices, two as at `search::shortest`, have an entry for each pair of states; what they hold does not matter and is lost.
     pub fn judge(
@@ -72,6 +83,20 @@ impl<D: Device> Campaign<D> {
             return Err(Refusal::NoSuchMember);
         }
         Ok(self.ledger.marks[usize::from(fault)])
+    }
+
+    // How many faults have each mark, as `mark` answers it.
+    #[tactic(auto, using(crate::proofs::Tallied::all_counted))]
+    pub fn tally(&self) -> Tally
+        ensures found { result.found ≡ faults_marked is_found (D.meaning self.now.device) self.now.book }
+        ensures undetectable { result.undetectable ≡ faults_marked is_undetectable (D.meaning self.now.device) self.now.book }
+        ensures open { result.open ≡ faults_marked is_open (D.meaning self.now.device) self.now.book }
+    {
+        let mut tally = Tally::default();
+        for fault in self.faults() {
+            tally = tally.with(self.ledger.marks[usize::from(fault)]);
+        }
+        tally
     }
 
     // Writes kept sequence n into the buffer from a place on, and nothing else: its length and origin.

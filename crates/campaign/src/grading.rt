@@ -4,6 +4,7 @@ ghost use Rattle.campaign.specs.Books.{part};
 ghost use Rattle.campaign.specs.Ledgers.{Graded, Remarked};
 ghost use Rattle.campaign.specs.Rules.{graded};
 
+use super::judging::faults;
 use super::ledger::{Kept, Ledger, MEMBERS};
 use super::mark::Mark;
 use compare::first_difference;
@@ -36,11 +37,11 @@ impl Ledger {
     }
 
     // Grades every fault by a kept sequence.
-    // By number: the device is asked of each fault by it, and after a loop over `iter_mut` nothing would be known of the marks.
+    // By number, as the device is asked of each fault by it: `enumerate` over `iter_mut` is an adapter, behind which nothing is known of the marks.
     pub(crate) fn grade<D: Device>(&mut self, device: &D, kept: Kept, number: u16)
         ensures { Graded (D.meaning device.now) self.old (part kept.start kept.length self.old.letters) number self.new }
     {
-        for fault in 1..device.members() {
+        for fault in faults(device) {
             self.grade_fault(device, fault, kept, number);
         }
     }

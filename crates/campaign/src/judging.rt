@@ -9,16 +9,26 @@ use super::mark::Mark;
 use compare::{is_legal, search_pairs};
 use machine::{Device, Pair, Refusal};
 use search::{Found, SearchError, Visit};
+use std::ops::Range;
 
-// Whether the device has a fault of this number.
+// The numbers of the device's faults: member 0 is the good machine.
+pub(crate) fn faults<D: Device>(device: &D) -> Range<u16>
+    ensures start { result.start ≡ 1 }
+    ensures end { result.end ≡ (D.meaning device.now).members }
+{
+    1..device.members()
+}
+
+// Whether the device has a fault of this number. A test: each of its two callers refuses by it in its own place.
 pub(crate) fn is_fault<D: Device>(device: &D, fault: u16) -> bool
     ensures { IsTrue result ↔ Fault (D.meaning device.now) fault }
 {
-    (1..device.members()).contains(&fault)
+    faults(device).contains(&fault)
 }
 
 impl Ledger {
     // Keeps the next letters as a sequence, and grades every fault by it: its number.
+    // That a number is left holds at a call and not of every ledger, so no type carries it.
     fn keep<D: Device>(&mut self, device: &D, size: usize, origin: Option<u16>) -> u16
         requires number { HasNumber (book self.old).kept }
         requires room { self.old.used + size ≤ LETTERS }
@@ -45,7 +55,8 @@ impl Ledger {
     ) -> Result<Found, SearchError>
         ensures { SearchedInto (D.meaning device.now) self.old fault (length visits.old) (length marks.old) result self.new }
     {
-        // The free letters, none once all numbers are given. No method lends them: a part of an array cannot be returned as `&mut` out of a struct with a ghost field.
+        // The free letters, none once all numbers are given. No method lends them, as a part of an array cannot be returned as `&mut` out of a struct with a ghost field.
+        // A `match` in place, with `&mut []` for none, was tried too: the borrow checker does not cover a reference that is one of two borrows.
         let start = self.next_place().unwrap_or(LETTERS);
         search_pairs(device, 0, fault, visits, marks, &mut self.letters[start..])
     }
@@ -63,9 +74,9 @@ impl Ledger {
         match self.search(device, fault, visits, marks) {
             Ok(Found::Goal { length }) => Ok(Some(self.keep(device, length, Some(fault)))),
             Ok(Found::Exhausted { .. }) => Ok(None),
-            Err(SearchError::WorkTooShort) => Err(Refusal::WorkTooShort),
             Err(SearchError::AnswerTooShort) if self.is_full() => Err(Refusal::SequencesFull),
             Err(SearchError::AnswerTooShort) => Err(Refusal::LettersFull),
+            Err(error) => Err(error.into()),
         }
     }
 
@@ -92,7 +103,7 @@ impl Ledger {
         Ok(number)
     }
 
-    // Keeps a sequence that fits, with origin 0: its number.
+    // Keeps a sequence that fits, with origin 0: its number. No type carries that a number is left, as at `keep`.
     fn keep_client<D: Device>(&mut self, device: &D, sequence: &[u8]) -> u16
         requires number { HasNumber (book self.old).kept }
         requires room { HasLetters (book self.old).kept sequence.now }

@@ -114,7 +114,7 @@ impl Ledger {
         self.letters[start..end].copy_from_slice(sequence);
     }
 
-    // Makes the next letters a kept sequence: its number.
+    // Makes the next letters a kept sequence: its number. No type carries that a number is left, as at `keep`.
     pub(crate) fn append(&mut self, next: Kept) -> u16
         requires number { HasNumber (book self.old).kept }
         requires next { next.start ≡ self.old.used }

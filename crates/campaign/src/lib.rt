@@ -7,6 +7,8 @@ mod grading;
 mod judging;
 mod ledger;
 mod mark;
+mod tally;
 
 pub use campaign::Campaign;
 pub use mark::Mark;
+pub use tally::Tally;

@@ -6,7 +6,7 @@ use devices::Table;
 use machine::Pair;
 use search::Visit;
 use std::io;
-use worked::{Letters, controller};
+use worked::{Spaced, controller};
 
 // A campaign over the worked controller, and where its answers are printed.
 #[derive(Drop)]
@@ -15,7 +15,7 @@ struct Session<'a, R> {
     campaign: Campaign<Table<'static>>,
 }
 
-impl<'a, R: Print> Session<'a, R> {
+impl<'a, R: Print + AllocGlobal> Session<'a, R> {
     fn begin(rt: &'a R, title: &str) -> io::Result<Self> {
         println!(rt; "{title}:")?;
         Ok(Session {
@@ -24,25 +24,26 @@ impl<'a, R: Print> Session<'a, R> {
         })
     }
 
-    // Judges a fault over so many visits.
-    fn judge(&mut self, fault: u16, work: usize) -> io::Result<()> {
+    // Judges a fault over so many visits. The marks are enough for every pair of states.
+    fn judge(&mut self, fault: u16, work: usize) -> anyhow::Result<()> {
         let rt = self.rt;
-        let mut visits = [Visit {
+        let visit = Visit {
             position: Pair {
                 first: 8,
                 second: 8,
             },
             from: 8,
             letter: 8,
-        }; 16];
+        };
+        let mut visits = vec![in rt.alloc(); visit; work]?;
         let mut marks = [8; 16];
-        let work = work.min(16);
         print!(rt; "  judge {fault} over {work}: ")?;
-        match self.campaign.judge(fault, &mut visits[..work], &mut marks) {
-            Ok(Some(number)) => println!(rt; "sequence {number}"),
-            Ok(None) => println!(rt; "undetectable"),
-            Err(refusal) => println!(rt; "{refusal}"),
+        match self.campaign.judge(fault, &mut visits, &mut marks) {
+            Ok(Some(number)) => println!(rt; "sequence {number}")?,
+            Ok(None) => println!(rt; "undetectable")?,
+            Err(refusal) => println!(rt; "{refusal}")?,
         }
+        Ok(())
     }
 
     fn admit(&mut self, sequence: &[u8]) -> io::Result<()> {
@@ -78,11 +79,11 @@ impl<'a, R: Print> Session<'a, R> {
             Ok((length, origin)) => print!(rt; "{length} letters for {origin};")?,
             Err(refusal) => print!(rt; "{refusal};")?,
         }
-        println!(rt; "{}", Letters(&buffer))
+        println!(rt; "{}", Spaced(&buffer))
     }
 }
 
-fn forwards(rt: &impl Print) -> io::Result<()> {
+fn forwards(rt: &(impl Print + AllocGlobal)) -> anyhow::Result<()> {
     let mut session = Session::begin(rt, "1 before 3")?;
     session.show_marks()?;
     session.judge(1, 15)?;
@@ -98,19 +99,21 @@ fn forwards(rt: &impl Print) -> io::Result<()> {
     session.read_out(1, 3)?;
     session.read_out(1, 4)?;
     session.read_out(1, usize::MAX)?;
-    session.read_out(2, 0)
+    session.read_out(2, 0)?;
+    Ok(())
 }
 
-fn backwards(rt: &impl Print) -> io::Result<()> {
+fn backwards(rt: &(impl Print + AllocGlobal)) -> anyhow::Result<()> {
     let mut session = Session::begin(rt, "3 before 1")?;
     session.judge(3, 16)?;
     session.judge(1, 16)?;
     session.show_marks()?;
     session.read_out(1, 0)?;
-    session.read_out(2, 0)
+    session.read_out(2, 0)?;
+    Ok(())
 }
 
-fn admitted(rt: &impl Print) -> io::Result<()> {
+fn admitted(rt: &(impl Print + AllocGlobal)) -> anyhow::Result<()> {
     let mut session = Session::begin(rt, "a client's sequences")?;
     session.admit(&[])?;
     session.admit(&[0, 2])?;
@@ -120,11 +123,12 @@ fn admitted(rt: &impl Print) -> io::Result<()> {
     session.show_marks()?;
     session.judge(1, 16)?;
     session.read_out(2, 1)?;
-    session.read_out(3, 0)
+    session.read_out(3, 0)?;
+    Ok(())
 }
 
 // Sequence 256 is kept, and the next is not: neither a client's nor one for a fault. A fault without one is judged all the same.
-fn last_number(rt: &impl Print) -> io::Result<()> {
+fn last_number(rt: &(impl Print + AllocGlobal)) -> anyhow::Result<()> {
     let mut session = Session::begin(rt, "the last number")?;
     for _ in 0..255 {
         let _ = session.campaign.admit(&[0]);
@@ -136,11 +140,12 @@ fn last_number(rt: &impl Print) -> io::Result<()> {
     session.judge(2, 16)?;
     session.show_marks()?;
     session.read_out(256, 0)?;
-    session.read_out(257, 0)
+    session.read_out(257, 0)?;
+    Ok(())
 }
 
 // One letter too few is refused, and exactly enough is not.
-fn last_letter(rt: &impl Print) -> io::Result<()> {
+fn last_letter(rt: &(impl Print + AllocGlobal)) -> anyhow::Result<()> {
     let mut session = Session::begin(rt, "the last letter")?;
     let long = [0; 16384];
     session.admit(&long[..16380])?;
@@ -153,10 +158,11 @@ fn last_letter(rt: &impl Print) -> io::Result<()> {
     session.judge(1, 16)?;
     session.judge(2, 16)?;
     session.show_marks()?;
-    session.read_out(2, 0)
+    session.read_out(2, 0)?;
+    Ok(())
 }
 
-fn main(rt: HostRuntime) -> io::Result<()> {
+fn main(rt: HostRuntime) -> anyhow::Result<()> {
     forwards(&rt)?;
     backwards(&rt)?;
     admitted(&rt)?;

@@ -1,8 +1,8 @@
 -- The first flaw of a list of pairs, letter by letter and place by place.
-use Rattle.std.proofs.Common.{◌≡◌, ℕ, zero, suc, ◌+◌, ◌<◌, ◌≤◌, Bool, true, false, cond, ◌⊎◌, List, [], ◌∷◌, length, get_or, Some, None, Option, sym, refl, ap, ◌∙◌, inl, inr, arith}
+use Rattle.std.proofs.Common.{◌≡◌, ℕ, zero, suc, ◌+◌, ◌-◌, ◌<◌, ◌≤◌, Bool, true, false, cond, ◌⊎◌, List, [], ◌∷◌, length, get_or, is_some, Some, None, Option, sym, refl, ap, ◌∙◌, inl, inr, arith}
 use Rattle.std.proofs.lemmas.Bool.{or_cases, cases_lt}
 use Rattle.std.specs.Option.{option_or}
-use Rattle.std.specs.List.{range_with_len, enumerate_from}
+use Rattle.std.specs.List.{enumerate_from}
 use Rattle.machine.specs.Machines.{Machine, step_of}
 use Rattle.machine.specs.Outputs.{differ}
 use Rattle.machine.specs.declared.pair.Pair.{Pair}
@@ -17,14 +17,22 @@ both_none None g e = (refl, e)
 both_none (Some x) g e = absurd cc
 
 module _ (m : Machine) (a b : ℕ) (has : Pair → Bool) where
-  -- the first flaw along the letters, and along the places
-  pub letters_first : (k : ℕ) (p : Pair) (l n : ℕ) → first_of (λ i. flaw_at m a b has k p i) (range_with_len l n) ≡ flaw_at_letters m a b has k p l n
-  letters_first k p l zero = refl
-  letters_first k p l (suc n) = ap (option_or (flaw_at m a b has k p l)) (letters_first k p (l + 1) n)
-
+  -- the first flaw along the places
   pub places_first : (k : ℕ) (ps : List Pair) → first_of (λ (e : ℕ × Pair). flaw_at_letters m a b has e.0 e.1 0 m.letters) (enumerate_from k ps) ≡ flaw_at_places m a b has k ps
   places_first k [] = refl
   places_first k (p ∷ ps) = ap (option_or (flaw_at_letters m a b has k p 0 m.letters)) (places_first (k + 1) ps)
+
+  -- the letters from one on: a flaw here, or one behind it; none behind the last
+  pub letter_flawed : (k : ℕ) (p : Pair) (l n : ℕ) (f : Option Flaw) → l < n → f ≡ flaw_at m a b has k p l → is_some f ≡ true → f ≡ flaw_at_letters m a b has k p l (n - l)
+  letter_flawed k p l n None h e s = absurd cc
+  letter_flawed k p l n (Some x) h e s = let size : n - l ≡ suc (n - (l + 1)) = omega arith in ap (λ o. option_or o (flaw_at_letters m a b has k p (l + 1) (n - (l + 1)))) e ∙ sym (ap (flaw_at_letters m a b has k p l) size)
+
+  pub letter_passed : (k : ℕ) (p : Pair) (l n : ℕ) (f : Option Flaw) → l < n → f ≡ flaw_at m a b has k p l → is_some f ≡ false → flaw_at_letters m a b has k p (l + 1) (n - (l + 1)) ≡ flaw_at_letters m a b has k p l (n - l)
+  letter_passed k p l n None h e s = let size : n - l ≡ suc (n - (l + 1)) = omega arith in ap (λ o. option_or o (flaw_at_letters m a b has k p (l + 1) (n - (l + 1)))) e ∙ sym (ap (flaw_at_letters m a b has k p l) size)
+  letter_passed k p l n (Some x) h e s = absurd cc
+
+  pub letters_over : (k : ℕ) (p : Pair) (l n : ℕ) → n ≤ l → None ≡ flaw_at_letters m a b has k p l (n - l)
+  letters_over k p l n h = let e : n - l ≡ 0 = omega arith in sym (ap (flaw_at_letters m a b has k p l) e)
 
   no_letter : (k : ℕ) (p : Pair) (n l : ℕ) → ((i : ℕ) → l ≤ i → i < l + n → flaw_at m a b has k p i ≡ None) → flaw_at_letters m a b has k p l n ≡ None
   no_letter k p zero l h = refl

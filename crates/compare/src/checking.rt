@@ -9,7 +9,7 @@ use super::product::Product;
 use machine::{Device, Pair, Refusal};
 use search::Walk;
 
-// What a check goes by: the product machine, and the pairs that are listed.
+// What a check goes by: the product machine, and the pairs that are listed, as a set. Their list is walked through once and lent to that walk alone.
 #[derive(Drop)]
 struct Checker<'a, D: Device> {
     product: Product<'a, D>,
@@ -33,7 +33,14 @@ impl<'a, D: Device> Checker<'a, D> {
     fn check_letters(&self, place: usize, pair: Pair, letters: u8) -> Option<Flaw>
         ensures { result ≡ flaw_at_letters (D.meaning self.now.product.device.now) self.now.product.first self.now.product.second (has_pair self.now.listed.now) place pair 0 letters }
     {
-        (0..letters).find_map(|letter| self.check_letter(place, pair, letter))
+        // A loop: with a `find_map` the whole check took half as many instructions again.
+        for letter in 0..letters {
+            let flaw = self.check_letter(place, pair, letter);
+            if flaw.is_some() {
+                return flaw;
+            }
+        }
+        None
     }
 
     // What is wrong at one pair, at the least letter.

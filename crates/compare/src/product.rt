@@ -14,6 +14,7 @@ pub(crate) fn pair_number(states: u16, pair: Pair) -> usize
 }
 
 // The product machine of two members, from their resets: a position is a pair of states, and unequal outputs are the goal.
+// Public calls take its three parts one by one, as callers have handed them from the first.
 #[derive(Clone, Copy)]
 pub(crate) struct Product<'a, D> {
     pub(crate) device: &'a D,

@@ -4,7 +4,7 @@ ghost use Rattle.compare.specs.Reaches.{Reaches, StatesSearched};
 
 use super::state_walk::StateWalk;
 use machine::{Device, Refusal};
-use search::{Found, SearchError, Visit, shortest};
+use search::{Found, SearchError, Visit, check_work, shortest};
 
 // Searches for the least sequence that leads a member from reset to another state.
 fn search_states<D: Device>(
@@ -38,10 +38,7 @@ pub fn reach<D: Device>(
     if wanted >= states {
         return Err(Refusal::OutOfRange);
     }
-    let count = usize::from(states);
-    if visits.len() < count || marks.len() < count {
-        return Err(Refusal::WorkTooShort);
-    }
+    check_work(usize::from(states), visits, marks)?;
     if device.reset(member) == wanted {
         return Ok(Some(0));
     }

@@ -18,7 +18,7 @@ fn letters_below(count: u8, sequence: &[u8]) -> bool
     sequence.iter().all(|letter| *letter < count)
 }
 
-// Whether the device takes the sequence: it has letters, not too many, and all are the device's.
+// Whether the device takes the sequence: it has letters, not too many, and all are the device's. A test, since callers outside ask it too.
 pub fn is_legal<D: Device>(device: &D, sequence: &[u8]) -> bool
     ensures { result ≡ legal (D.meaning device.now).letters sequence.now }
 {
@@ -32,7 +32,7 @@ fn difference<D: Device>(product: &Product<D>, sequence: &[u8]) -> Option<usize>
     ensures { result ≡ first_difference (D.meaning product.now.device.now) product.now.first product.now.second sequence.now }
 {
     let mut pair = product.start();
-    // A loop: `try_fold` over the steps would carry the pair and lose the place.
+    // A loop: a `try_fold` would carry the pair and tell the place as its error, which it is not.
     for (place, letter) in sequence.iter().enumerate() {
         match product.step(pair, *letter) {
             None => return Some(place),

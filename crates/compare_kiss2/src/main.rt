@@ -4,17 +4,18 @@
 use anyhow::bail;
 use devices::Cell;
 use kiss2::Part;
+use machine::MOST_STATES;
 use report::report;
 use search::Visit;
 use std::fs;
 use std::io::Write;
 use std::rt::Files;
 
-// How many cells each table may have.
+// How many cells each table may have. It is a rule of the project, and so are the numbers of positions and of bytes.
 const CELLS: usize = 1024;
 
 // How many states each table may have names for.
-const NAMES: usize = 256;
+const NAMES: usize = MOST_STATES as usize;
 
 // How many pairs of states the comparison may have.
 const POSITIONS: usize = 1024;
@@ -37,6 +38,7 @@ fn main(rt: HostRuntime) -> anyhow::Result<()> {
     let mut visits = [Visit::default(); POSITIONS];
     let mut marks = [0; POSITIONS];
     let mut bytes = [0; BYTES];
+    // A report that does not fit is the one refusal that is left to a caller: the report tells all others.
     let Ok(length) = report(
         &good,
         &faulty,

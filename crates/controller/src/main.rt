@@ -6,7 +6,7 @@ use devices::Table;
 use machine::{Device, Pair};
 use search::Visit;
 use std::io;
-use worked::{Letters, NAMES, controller};
+use worked::{NAMES, Spaced, controller};
 
 const STATES: usize = 4;
 
@@ -23,81 +23,100 @@ fn show_pairs(rt: &impl Print, pairs: &[Pair]) -> io::Result<()> {
     Ok(())
 }
 
-// Replays a sequence on member 0 and another, and prints where the outputs first differ.
-fn show_replay(rt: &impl Print, table: &Table, member: u16, letters: &[u8]) -> io::Result<()> {
-    print!(rt; "  replayed: ")?;
-    match replay(table, 0, member, letters) {
-        Ok(Some(place)) => println!(rt; "outputs differ at place {place}"),
-        Ok(None) => println!(rt; "no difference"),
-        Err(refusal) => println!(rt; "{refusal}"),
-    }
+// The controller, and where what is found of it is printed.
+#[derive(Drop)]
+struct Session<'a, R> {
+    rt: &'a R,
+    table: Table<'static>,
 }
 
-// Checks a list of pairs for member 0 and another, and prints what is wrong with it.
-fn show_check(rt: &impl Print, table: &Table, member: u16, pairs: &[Pair]) -> io::Result<()> {
-    print!(rt; "  checked: ")?;
-    match check(table, 0, member, pairs) {
-        Ok(None) => println!(rt; "closed"),
-        Ok(Some(Flaw::NoResetPair)) => println!(rt; "no reset pair"),
-        Ok(Some(Flaw::OutputsDiffer { place, letter })) => println!(rt;
-            "outputs differ at place {place}, letter {letter}"
-        ),
-        Ok(Some(Flaw::SuccessorMissing { place, letter })) => println!(rt;
-            "successor missing at place {place}, letter {letter}"
-        ),
-        Err(refusal) => println!(rt; "{refusal}"),
-    }
-}
-
-// Compares member 0 with another, prints the verdict, and confirms it: a sequence by replaying it, a list of pairs by checking it.
-fn show_comparison(rt: &impl Print, table: &Table, member: u16) -> io::Result<()> {
-    let mut visits = [Visit::default(); PAIRS];
-    let mut marks = [0; PAIRS];
-    let mut letters = [0; PAIRS];
-    let mut pairs = [Pair::default(); PAIRS];
-    print!(rt; "0 with {member}: ")?;
-    match compare(
-        table,
-        0,
-        member,
-        &mut visits,
-        &mut marks,
-        &mut letters,
-        &mut pairs,
-    ) {
-        Ok(verdict @ Verdict::Differ { length }) => {
-            println!(rt; "{verdict}:{}", Letters(&letters[..length]))?;
-            show_replay(rt, table, member, &letters[..length])
+impl<R: Print> Session<'_, R> {
+    // Replays a sequence on member 0 and another, and prints where the outputs first differ.
+    fn show_replay(&self, member: u16, letters: &[u8]) -> io::Result<()> {
+        print!(self.rt; "  replayed: ")?;
+        match replay(&self.table, 0, member, letters) {
+            Ok(Some(place)) => println!(self.rt; "outputs differ at place {place}"),
+            Ok(None) => println!(self.rt; "no difference"),
+            Err(refusal) => println!(self.rt; "{refusal}"),
         }
-        Ok(verdict @ Verdict::Equivalent { count }) => {
-            println!(rt; "{verdict}:")?;
-            show_pairs(rt, &pairs[..count])?;
-            show_check(rt, table, member, &pairs[..count])
-        }
-        Err(refusal) => println!(rt; "{refusal}"),
     }
-}
 
-// Prints the least sequence that leads a member from reset to a state.
-fn show_reach(rt: &impl Print, table: &Table, member: u16, state: u16) -> io::Result<()> {
-    let mut visits = [Visit::default(); STATES];
-    let mut marks = [0; STATES];
-    let mut letters = [0; STATES];
-    print!(rt; "member {member} reaches {}: ", name(state))?;
-    match reach(table, member, state, &mut visits, &mut marks, &mut letters) {
-        Ok(Some(length)) => println!(rt; "by {length}:{}", Letters(&letters[..length])),
-        Ok(None) => println!(rt; "unreachable"),
-        Err(refusal) => println!(rt; "{refusal}"),
+    // Checks a list of pairs for member 0 and another, and prints what is wrong with it.
+    fn show_check(&self, member: u16, pairs: &[Pair]) -> io::Result<()> {
+        print!(self.rt; "  checked: ")?;
+        match check(&self.table, 0, member, pairs) {
+            Ok(None) => println!(self.rt; "closed"),
+            Ok(Some(Flaw::NoResetPair)) => println!(self.rt; "no reset pair"),
+            Ok(Some(Flaw::OutputsDiffer { place, letter })) => println!(self.rt;
+                "outputs differ at place {place}, letter {letter}"
+            ),
+            Ok(Some(Flaw::SuccessorMissing { place, letter })) => println!(self.rt;
+                "successor missing at place {place}, letter {letter}"
+            ),
+            Err(refusal) => println!(self.rt; "{refusal}"),
+        }
+    }
+
+    // Compares member 0 with another, prints the verdict, and confirms it: a sequence by replaying it, a list of pairs by checking it.
+    fn show_comparison(&self, member: u16) -> io::Result<()> {
+        let mut visits = [Visit::default(); PAIRS];
+        let mut marks = [0; PAIRS];
+        let mut letters = [0; PAIRS];
+        let mut pairs = [Pair::default(); PAIRS];
+        print!(self.rt; "0 with {member}: ")?;
+        match compare(
+            &self.table,
+            0,
+            member,
+            &mut visits,
+            &mut marks,
+            &mut letters,
+            &mut pairs,
+        ) {
+            Ok(verdict @ Verdict::Differ { length }) => {
+                println!(self.rt; "{verdict}:{}", Spaced(&letters[..length]))?;
+                self.show_replay(member, &letters[..length])
+            }
+            Ok(verdict @ Verdict::Equivalent { count }) => {
+                println!(self.rt; "{verdict}:")?;
+                show_pairs(self.rt, &pairs[..count])?;
+                self.show_check(member, &pairs[..count])
+            }
+            Err(refusal) => println!(self.rt; "{refusal}"),
+        }
+    }
+
+    // Prints the least sequence that leads a member from reset to a state.
+    fn show_reach(&self, member: u16, state: u16) -> io::Result<()> {
+        let mut visits = [Visit::default(); STATES];
+        let mut marks = [0; STATES];
+        let mut letters = [0; STATES];
+        print!(self.rt; "member {member} reaches {}: ", name(state))?;
+        match reach(
+            &self.table,
+            member,
+            state,
+            &mut visits,
+            &mut marks,
+            &mut letters,
+        ) {
+            Ok(Some(length)) => println!(self.rt; "by {length}:{}", Spaced(&letters[..length])),
+            Ok(None) => println!(self.rt; "unreachable"),
+            Err(refusal) => println!(self.rt; "{refusal}"),
+        }
     }
 }
 
 fn main(rt: HostRuntime) -> io::Result<()> {
-    let table = controller();
-    for member in 0..table.members() {
-        show_comparison(&rt, &table, member)?;
+    let session = Session {
+        rt: &rt,
+        table: controller(),
+    };
+    for member in 0..session.table.members() {
+        session.show_comparison(member)?;
     }
-    for state in 0..table.states() {
-        show_reach(&rt, &table, 0, state)?;
+    for state in 0..session.table.states() {
+        session.show_reach(0, state)?;
     }
     Ok(())
 }

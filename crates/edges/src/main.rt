@@ -6,7 +6,7 @@ use devices::{AlteredCell, Cell, Table};
 use machine::{Device, Pair};
 use search::Visit;
 use std::io;
-use worked::{CELLS, Letters, Pairs, controller};
+use worked::{CELLS, Spaced, controller};
 
 // A comparison: two members, the four slices' lengths, and what the work slices are filled with.
 #[derive(Clone, Copy)]
@@ -101,8 +101,7 @@ const COMPARISONS: [Comparison; 14] = [
         visits: 0,
         marks: 0,
         letters: 0,
-        pairs: 0,
-        filling: 0,
+        ..DIFFERENT
     },
     Comparison {
         second: 4,
@@ -219,121 +218,6 @@ const INTAKES: [Intake; 17] = [
     },
 ];
 
-// Compares over slices of the case's lengths, and prints the answer and what the answer slices then hold.
-fn try_comparison(rt: &impl Print, table: &Table, case: Comparison) -> io::Result<()> {
-    let Comparison {
-        first,
-        second,
-        filling,
-        ..
-    } = case;
-    let state = u16::from(filling);
-    let mut visits = [Visit {
-        position: Pair {
-            first: state,
-            second: state,
-        },
-        from: u32::from(filling),
-        letter: filling,
-    }; 20];
-    let mut marks = [u32::from(filling); 20];
-    let mut letters = [9; 10];
-    let mut pairs = [pair(9, 9); 10];
-    let visits = &mut visits[..case.visits.min(20)];
-    let marks = &mut marks[..case.marks.min(20)];
-    let letters = &mut letters[..case.letters.min(10)];
-    let pairs = &mut pairs[..case.pairs.min(10)];
-    print!(rt;
-        "{first} with {second}, {} visits, {} marks, filling {filling}: ",
-        visits.len(),
-        marks.len()
-    )?;
-    match compare(table, first, second, visits, marks, letters, pairs) {
-        Ok(verdict) => print!(rt; "{verdict}")?,
-        Err(refusal) => print!(rt; "{refusal}")?,
-    }
-    println!(rt; "; letters{}; pairs{}", Letters(letters), Pairs(pairs))
-}
-
-// Takes a table in over the idle device, and tells what then stands by its counts.
-fn try_intake(rt: &impl Print, case: Intake) -> io::Result<()> {
-    let Intake {
-        pins,
-        states,
-        reset,
-        ..
-    } = case;
-    let cells = &CELLS[..case.cells.min(8)];
-    let list = [case.content; 1025];
-    let altered = &list[..case.altered.min(1025)];
-    let mut table = Table::idle();
-    print!(rt;
-        "{pins} pins, {states} states, reset {reset}, {} cells, {} altered: ",
-        cells.len(),
-        altered.len()
-    )?;
-    match table.take_in(pins, states, reset, cells, altered) {
-        Ok(()) => print!(rt; "taken in")?,
-        Err(refusal) => print!(rt; "{refusal}")?,
-    }
-    println!(rt;
-        "; members {}, letters {}, states {}",
-        table.members(),
-        table.letters(),
-        table.states()
-    )
-}
-
-fn try_replay(
-    rt: &impl Print,
-    table: &Table,
-    first: u16,
-    second: u16,
-    sequence: &[u8],
-) -> io::Result<()> {
-    print!(rt; "replay on {first} and {second}:")?;
-    if sequence.len() < 10 {
-        print!(rt; "{}", Letters(sequence))?;
-    }
-    print!(rt; " ({} letters): ", sequence.len())?;
-    match replay(table, first, second, sequence) {
-        Ok(Some(place)) => println!(rt; "place {place}"),
-        Ok(None) => println!(rt; "none"),
-        Err(refusal) => println!(rt; "{refusal}"),
-    }
-}
-
-// Sequences on the controller: with no difference, with one at the end, empty, too long, and letters out of range.
-fn try_replays(rt: &impl Print, table: &Table) -> io::Result<()> {
-    try_replay(rt, table, 0, 1, &[0, 1, 0, 1])?;
-    try_replay(rt, table, 0, 1, &[0, 1, 0, 1, 1])?;
-    try_replay(rt, table, 1, 0, &[0, 1, 0, 1, 1, 0, 0])?;
-    try_replay(rt, table, 0, 3, &[1])?;
-    try_replay(rt, table, 0, 1, &[])?;
-    try_replay(rt, table, 0, 1, &[0, 1, 2])?;
-    try_replay(rt, table, 0, 4, &[0, 9])?;
-    let long = [0; 16385];
-    try_replay(rt, table, 0, 1, &long[..16384])?;
-    try_replay(rt, table, 0, 1, &long)
-}
-
-// One state and 64 letters: the last letter does, the next does not.
-fn try_last_letter(rt: &impl Print) -> io::Result<()> {
-    let cells = [Cell { next: 0, output: 5 }; 64];
-    let altered = [AlteredCell {
-        letter: 63,
-        output: 6,
-        ..FIRST
-    }];
-    match Table::new(6, 1, 0, &cells, &altered) {
-        Ok(table) => {
-            try_replay(rt, &table, 0, 1, &[62, 63])?;
-            try_replay(rt, &table, 0, 1, &[62, 64])
-        }
-        Err(refusal) => println!(rt; "{refusal}"),
-    }
-}
-
 // A state to be reached: the member, the state, and the slices' lengths.
 #[derive(Clone, Copy)]
 struct Reaching {
@@ -405,70 +289,136 @@ const REACHINGS: [Reaching; 10] = [
     },
 ];
 
-// Reaches a state over slices of the case's lengths, and prints the answer and what the answer slice then holds.
-fn try_reach(rt: &impl Print, table: &Table, case: Reaching) -> io::Result<()> {
-    let Reaching { member, wanted, .. } = case;
-    let mut visits = [Visit {
-        position: 7,
-        from: 7,
-        letter: 7,
-    }; 8];
-    let mut marks = [7; 8];
-    let mut letters = [9; 8];
-    let visits = &mut visits[..case.visits.min(8)];
-    let marks = &mut marks[..case.marks.min(8)];
-    let letters = &mut letters[..case.letters.min(8)];
-    print!(rt;
-        "reach {wanted} of {member}, {} visits, {} marks: ",
-        visits.len(),
-        marks.len()
-    )?;
-    match reach(table, member, wanted, visits, marks, letters) {
-        Ok(Some(length)) => print!(rt; "by {length}")?,
-        Ok(None) => print!(rt; "unreachable")?,
-        Err(refusal) => print!(rt; "{refusal}")?,
-    }
-    println!(rt; "; letters{}", Letters(letters))
+// A table, and where the answers of its calls are printed.
+#[derive(Drop)]
+struct Session<'r, 't, R> {
+    rt: &'r R,
+    table: Table<'t>,
 }
 
-// A state that no letter leads to.
-fn try_unreachable(rt: &impl Print) -> io::Result<()> {
-    let cells = [Cell { next: 0, output: 0 }; 4];
-    match Table::new(1, 2, 0, &cells, &[]) {
-        Ok(table) => try_reach(
-            rt,
-            &table,
-            Reaching {
-                member: 0,
-                wanted: 1,
-                visits: 2,
-                marks: 2,
-                letters: 2,
-            },
-        ),
-        Err(refusal) => println!(rt; "{refusal}"),
+impl<R: Print + AllocGlobal> Session<'_, '_, R> {
+    // Compares over slices of the case's lengths, and prints the answer and what the answer slices then hold.
+    fn try_comparison(&self, case: Comparison) -> anyhow::Result<()> {
+        let heap = self.rt.alloc();
+        let state = u16::from(case.filling);
+        let visit = Visit {
+            position: pair(state, state),
+            from: u32::from(case.filling),
+            letter: case.filling,
+        };
+        let mut visits = vec![in heap; visit; case.visits]?;
+        let mut marks = vec![in heap; u32::from(case.filling); case.marks]?;
+        let mut letters = vec![in heap; 9; case.letters]?;
+        let mut pairs = vec![in heap; pair(9, 9); case.pairs]?;
+        print!(self.rt;
+            "{} with {}, {} visits, {} marks, filling {}: ",
+            case.first, case.second, case.visits, case.marks, case.filling
+        )?;
+        match compare(
+            &self.table,
+            case.first,
+            case.second,
+            &mut visits,
+            &mut marks,
+            &mut letters,
+            &mut pairs,
+        ) {
+            Ok(verdict) => print!(self.rt; "{verdict}")?,
+            Err(refusal) => print!(self.rt; "{refusal}")?,
+        }
+        println!(self.rt; "; letters{}; pairs{}", Spaced(&letters), Spaced(&pairs))?;
+        Ok(())
     }
-}
 
-// The words are this program's own: the one that prints the controller puts `at place` for `, place`.
-fn try_check(
-    rt: &impl Print,
-    table: &Table,
-    first: u16,
-    second: u16,
-    pairs: &[Pair],
-) -> io::Result<()> {
-    print!(rt; "check for {first} and {second}{}: ", Pairs(pairs))?;
-    match check(table, first, second, pairs) {
-        Ok(None) => println!(rt; "closed"),
-        Ok(Some(Flaw::NoResetPair)) => println!(rt; "no reset pair"),
-        Ok(Some(Flaw::OutputsDiffer { place, letter })) => println!(rt;
-            "outputs differ, place {place}, letter {letter}"
-        ),
-        Ok(Some(Flaw::SuccessorMissing { place, letter })) => println!(rt;
-            "successor missing, place {place}, letter {letter}"
-        ),
-        Err(refusal) => println!(rt; "{refusal}"),
+    fn try_replay(&self, first: u16, second: u16, sequence: &[u8]) -> io::Result<()> {
+        print!(self.rt; "replay on {first} and {second}:")?;
+        if sequence.len() < 10 {
+            print!(self.rt; "{}", Spaced(sequence))?;
+        }
+        print!(self.rt; " ({} letters): ", sequence.len())?;
+        match replay(&self.table, first, second, sequence) {
+            Ok(Some(place)) => println!(self.rt; "place {place}"),
+            Ok(None) => println!(self.rt; "none"),
+            Err(refusal) => println!(self.rt; "{refusal}"),
+        }
+    }
+
+    // Sequences on the controller: with no difference, with one at the end, empty, too long, and letters out of range.
+    fn try_replays(&self) -> io::Result<()> {
+        self.try_replay(0, 1, &[0, 1, 0, 1])?;
+        self.try_replay(0, 1, &[0, 1, 0, 1, 1])?;
+        self.try_replay(1, 0, &[0, 1, 0, 1, 1, 0, 0])?;
+        self.try_replay(0, 3, &[1])?;
+        self.try_replay(0, 1, &[])?;
+        self.try_replay(0, 1, &[0, 1, 2])?;
+        self.try_replay(0, 4, &[0, 9])?;
+        let long = [0; 16385];
+        self.try_replay(0, 1, &long[..16384])?;
+        self.try_replay(0, 1, &long)
+    }
+
+    // Reaches a state over slices of the case's lengths, and prints the answer and what the answer slice then holds.
+    fn try_reach(&self, case: Reaching) -> anyhow::Result<()> {
+        let heap = self.rt.alloc();
+        let visit = Visit {
+            position: 7,
+            from: 7,
+            letter: 7,
+        };
+        let mut visits = vec![in heap; visit; case.visits]?;
+        let mut marks = vec![in heap; 7; case.marks]?;
+        let mut letters = vec![in heap; 9; case.letters]?;
+        print!(self.rt;
+            "reach {} of {}, {} visits, {} marks: ",
+            case.wanted, case.member, case.visits, case.marks
+        )?;
+        match reach(
+            &self.table,
+            case.member,
+            case.wanted,
+            &mut visits,
+            &mut marks,
+            &mut letters,
+        ) {
+            Ok(Some(length)) => print!(self.rt; "by {length}")?,
+            Ok(None) => print!(self.rt; "unreachable")?,
+            Err(refusal) => print!(self.rt; "{refusal}")?,
+        }
+        println!(self.rt; "; letters{}", Spaced(&letters))?;
+        Ok(())
+    }
+
+    // The words are this program's own: the one that prints the controller puts `at place` for `, place`.
+    fn try_check(&self, first: u16, second: u16, pairs: &[Pair]) -> io::Result<()> {
+        print!(self.rt; "check for {first} and {second}{}: ", Spaced(pairs))?;
+        match check(&self.table, first, second, pairs) {
+            Ok(None) => println!(self.rt; "closed"),
+            Ok(Some(Flaw::NoResetPair)) => println!(self.rt; "no reset pair"),
+            Ok(Some(Flaw::OutputsDiffer { place, letter })) => println!(self.rt;
+                "outputs differ, place {place}, letter {letter}"
+            ),
+            Ok(Some(Flaw::SuccessorMissing { place, letter })) => println!(self.rt;
+                "successor missing, place {place}, letter {letter}"
+            ),
+            Err(refusal) => println!(self.rt; "{refusal}"),
+        }
+    }
+
+    // Lists of pairs: whole, in another order, with a pair twice, without the last, without the first, empty, with unequal outputs, out of range.
+    fn try_checks(&self) -> io::Result<()> {
+        let [a, b, c, d] = [0, 1, 2, 3].map(|state| pair(state, state));
+        let off = pair(0, 2);
+        let past = pair(0, 4);
+        self.try_check(0, 2, &[a, b, c, d])?;
+        self.try_check(0, 2, &[d, c, b, b, a])?;
+        self.try_check(0, 2, &[a, b, c])?;
+        self.try_check(0, 2, &[b, c, d])?;
+        self.try_check(0, 2, &[])?;
+        self.try_check(0, 2, &[off, a, b, c, d])?;
+        self.try_check(0, 3, &[a, b, c, d])?;
+        self.try_check(0, 3, &[a])?;
+        self.try_check(0, 2, &[a, past])?;
+        self.try_check(0, 4, &[past])
     }
 }
 
@@ -476,36 +426,83 @@ fn pair(first: u16, second: u16) -> Pair {
     Pair { first, second }
 }
 
-// Lists of pairs: whole, in another order, with a pair twice, without the last, without the first, empty, with unequal outputs, out of range.
-fn try_checks(rt: &impl Print, table: &Table) -> io::Result<()> {
-    let [a, b, c, d] = [0, 1, 2, 3].map(|state| pair(state, state));
-    let off = pair(0, 2);
-    let past = pair(0, 4);
-    try_check(rt, table, 0, 2, &[a, b, c, d])?;
-    try_check(rt, table, 0, 2, &[d, c, b, b, a])?;
-    try_check(rt, table, 0, 2, &[a, b, c])?;
-    try_check(rt, table, 0, 2, &[b, c, d])?;
-    try_check(rt, table, 0, 2, &[])?;
-    try_check(rt, table, 0, 2, &[off, a, b, c, d])?;
-    try_check(rt, table, 0, 3, &[a, b, c, d])?;
-    try_check(rt, table, 0, 3, &[a])?;
-    try_check(rt, table, 0, 2, &[a, past])?;
-    try_check(rt, table, 0, 4, &[past])
+// Takes a table in over the idle device, and tells what then stands by its counts.
+fn try_intake(rt: &(impl Print + AllocGlobal), case: Intake) -> anyhow::Result<()> {
+    let cells: Vec<Cell> = CELLS.iter().copied().take(case.cells).collect(rt.alloc())?;
+    let altered = vec![in rt.alloc(); case.content; case.altered]?;
+    let mut table = Table::idle();
+    print!(rt;
+        "{} pins, {} states, reset {}, {} cells, {} altered: ",
+        case.pins,
+        case.states,
+        case.reset,
+        cells.len(),
+        case.altered
+    )?;
+    match table.take_in(case.pins, case.states, case.reset, &cells, &altered) {
+        Ok(()) => print!(rt; "taken in")?,
+        Err(refusal) => print!(rt; "{refusal}")?,
+    }
+    println!(rt;
+        "; members {}, letters {}, states {}",
+        table.members(),
+        table.letters(),
+        table.states()
+    )?;
+    Ok(())
 }
 
-fn main(rt: HostRuntime) -> io::Result<()> {
+// One state and 64 letters: the last letter does, the next does not.
+fn try_last_letter(rt: &(impl Print + AllocGlobal)) -> io::Result<()> {
+    let cells = [Cell { next: 0, output: 5 }; 64];
+    let altered = [AlteredCell {
+        letter: 63,
+        output: 6,
+        ..FIRST
+    }];
+    match Table::new(6, 1, 0, &cells, &altered) {
+        Ok(table) => {
+            let session = Session { rt, table };
+            session.try_replay(0, 1, &[62, 63])?;
+            session.try_replay(0, 1, &[62, 64])
+        }
+        Err(refusal) => println!(rt; "{refusal}"),
+    }
+}
+
+// A state that no letter leads to.
+fn try_unreachable(rt: &(impl Print + AllocGlobal)) -> anyhow::Result<()> {
+    let cells = [Cell { next: 0, output: 0 }; 4];
+    match Table::new(1, 2, 0, &cells, &[]) {
+        Ok(table) => Session { rt, table }.try_reach(Reaching {
+            member: 0,
+            wanted: 1,
+            visits: 2,
+            marks: 2,
+            letters: 2,
+        })?,
+        Err(refusal) => println!(rt; "{refusal}")?,
+    }
+    Ok(())
+}
+
+fn main(rt: HostRuntime) -> anyhow::Result<()> {
     for case in INTAKES {
         try_intake(&rt, case)?;
     }
-    let table = controller();
+    let session = Session {
+        rt: &rt,
+        table: controller(),
+    };
     for case in COMPARISONS {
-        try_comparison(&rt, &table, case)?;
+        session.try_comparison(case)?;
     }
-    try_replays(&rt, &table)?;
+    session.try_replays()?;
     try_last_letter(&rt)?;
     for case in REACHINGS {
-        try_reach(&rt, &table, case)?;
+        session.try_reach(case)?;
     }
     try_unreachable(&rt)?;
-    try_checks(&rt, &table)
+    session.try_checks()?;
+    Ok(())
 }

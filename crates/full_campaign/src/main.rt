@@ -1,13 +1,13 @@
 // Runs whole campaigns: every fault of a small controller, and of a larger table that is made by rule.
 #![tactic(auto)]
 
-use campaign::{Campaign, Mark};
+use campaign::{Campaign, Tally};
 use devices::{AlteredCell, Cell, Table};
-use machine::{Device, Pair};
+use machine::{Device, Pair, Refusal};
 use search::Visit;
 use std::alloc::{AllocError, Global};
 use std::io;
-use worked::{Letters, controller};
+use worked::{Spaced, controller};
 
 // The larger table: 40 states, 8 letters, one fault for every cell: 320 in all.
 const STATES: u16 = 40;
@@ -77,12 +77,13 @@ impl<'a, R: Print + AllocGlobal> Bench<'a, R> {
     }
 
     // Judges each fault in turn that is open at its turn.
-    fn judge_all<D: Device>(&mut self, campaign: &mut Campaign<D>, members: u16) -> io::Result<()> {
-        for fault in 1..members {
+    fn judge_all<D: Device>(&mut self, campaign: &mut Campaign<D>) -> io::Result<()> {
+        for fault in campaign.faults() {
             match campaign.judge(fault, &mut self.visits, &mut self.marks) {
                 Ok(Some(number)) => println!(self.rt; "  fault {fault}: sequence {number}")?,
                 Ok(None) => println!(self.rt; "  fault {fault}: undetectable")?,
-                Err(_) => {}
+                Err(Refusal::FaultNotOpen) => {}
+                Err(refusal) => println!(self.rt; "  fault {fault}: {refusal}")?,
             }
         }
         Ok(())
@@ -97,7 +98,7 @@ impl<'a, R: Print + AllocGlobal> Bench<'a, R> {
                 letters = letters.saturating_add(length);
                 println!(self.rt;
                     "  sequence {n} for {origin}:{}",
-                    Letters(&self.buffer[..length])
+                    Spaced(&self.buffer[..length])
                 )?;
             }
         }
@@ -105,33 +106,25 @@ impl<'a, R: Print + AllocGlobal> Bench<'a, R> {
     }
 
     fn run<D: Device + Drop>(&mut self, name: &str, device: D) -> io::Result<()> {
-        let members = device.members();
         let mut campaign = Campaign::make(device);
         println!(self.rt; "{name}:")?;
-        self.judge_all(&mut campaign, members)?;
-        show_marks(self.rt, &campaign, members)?;
+        self.judge_all(&mut campaign)?;
+        show_marks(self.rt, &campaign)?;
         let letters = self.show_kept(&campaign)?;
-        let found = count(&campaign, members, |mark| matches!(mark, Mark::Found(_)));
-        let undetectable = count(&campaign, members, |mark| mark == Mark::Undetectable);
-        let open = count(&campaign, members, |mark| mark == Mark::Open);
+        let Tally {
+            found,
+            undetectable,
+            open,
+        } = campaign.tally();
         println!(self.rt;
             "  found {found}, undetectable {undetectable}, open {open}; letters {letters}"
         )
     }
 }
 
-// How many faults have a mark of a kind. Here and in `gate_lists`: a public function that is handed a test would need a `requires`, which no public call has.
-fn count<D: Device, F: Fn(Mark) -> bool>(campaign: &Campaign<D>, members: u16, is_kind: F) -> usize
-    requires { F.IsAlwaysCallable is_kind }
-{
-    (1..members)
-        .filter(|fault| matches!(campaign.mark(*fault), Ok(mark) if is_kind(mark)))
-        .count()
-}
-
-fn show_marks<D: Device>(rt: &impl Print, campaign: &Campaign<D>, members: u16) -> io::Result<()> {
+fn show_marks<D: Device>(rt: &impl Print, campaign: &Campaign<D>) -> io::Result<()> {
     print!(rt; "  marks:")?;
-    for fault in 1..members {
+    for fault in campaign.faults() {
         if let Ok(mark) = campaign.mark(fault) {
             print!(rt; " {mark};")?;
         }
@@ -144,6 +137,7 @@ fn main(rt: HostRuntime) -> anyhow::Result<()> {
     bench.run("controller", controller())?;
     let cells = made_cells(rt.alloc())?;
     let faults = made_faults(rt.alloc())?;
+    // A refused table is left out, and the program goes on: a `?` would end it.
     if let Ok(larger) = Table::new(3, STATES, 0, &cells, &faults) {
         bench.run("made by rule", larger)?;
     }

@@ -1,7 +1,7 @@
 // Gate lists: whole stuck-at campaigns on small circuits, a pile of layers over a table and a gate list, and many steps of the largest list.
 #![tactic(auto)]
 
-use campaign::{Campaign, Mark};
+use campaign::{Campaign, Tally};
 use compare::{Verdict, compare};
 use devices::{Cell, Table};
 use gates::{Gate, Gates, Kind};
@@ -10,7 +10,7 @@ use machine::{Device, Pair, Refusal};
 use search::Visit;
 use std::alloc::{AllocError, Global};
 use std::io;
-use worked::{Letters, Pairs, controller, worked_cases};
+use worked::{Spaced, controller, worked_cases};
 
 const PAIRS: usize = 256;
 
@@ -91,26 +91,29 @@ impl<'a, R: Print + AllocGlobal> Bench<'a, R> {
     // Judges every fault of a device that is open at its turn, and prints what was kept and a summary.
     fn run<D: Device + Drop>(&mut self, name: &str, device: D) -> io::Result<()> {
         let rt = self.rt;
-        let members = device.members();
         let mut campaign = Campaign::make(device);
         // Added up in the loop that prints: a sum by a chain would read every sequence out twice.
         let mut letters = 0usize;
         println!(rt; "{name}:")?;
-        for fault in 1..members {
+        for fault in campaign.faults() {
             match campaign.judge(fault, &mut self.visits, &mut self.marks) {
                 Ok(Some(number)) => {
                     letters = letters.saturating_add(show_sequence(rt, &campaign, fault, number)?);
                 }
                 Ok(None) => println!(rt; "  fault {fault}: undetectable")?,
-                Err(_) => {}
+                Err(Refusal::FaultNotOpen) => {}
+                Err(refusal) => println!(rt; "  fault {fault}: {refusal}")?,
             }
         }
-        let found = count(&campaign, members, |mark| matches!(mark, Mark::Found(_)));
-        let undetectable = count(&campaign, members, |mark| mark == Mark::Undetectable);
+        let Tally {
+            found,
+            undetectable,
+            ..
+        } = campaign.tally();
         println!(rt; "  found {found}, undetectable {undetectable}; letters {letters}")
     }
 
-    // Runs the campaign of a gate list, if it was taken in.
+    // Runs the campaign of a gate list. A refused one is told, and the program goes on: a `?` would end it.
     fn run_gates(&mut self, name: &str, device: Result<Gates, Refusal>) -> io::Result<()> {
         match device {
             Ok(device) => self.run(name, device),
@@ -135,18 +138,18 @@ impl<'a, R: Print + AllocGlobal> Bench<'a, R> {
         ) {
             Ok(verdict @ Verdict::Differ { length }) => println!(rt;
                 "{verdict}:{}",
-                Letters(&letters[..length])
+                Spaced(&letters[..length])
             ),
             Ok(verdict @ Verdict::Equivalent { count }) => println!(rt;
                 "{verdict}:{}",
-                Pairs(&pairs[..count])
+                Spaced(&pairs[..count])
             ),
             Err(refusal) => println!(rt; "{refusal}"),
         }
     }
 
     // The adder's table beside its gate list: equivalent, and with a wrong cell not, unless the pins or the outputs hide it.
-    // A table or list that is refused would leave the idle device.
+    // A refused table or list leaves the idle device, and the program goes on: a `?` would end it.
     fn show_piles(&mut self) -> io::Result<()> {
         let gates = adder();
         let gates = Gates::new(2, 0, &gates, &[7], &[4]).unwrap_or(Gates::idle());
@@ -168,15 +171,6 @@ impl<'a, R: Print + AllocGlobal> Bench<'a, R> {
     }
 }
 
-// How many faults have a mark of a kind. Here and in `full_campaign`: a public function that is handed a test would need a `requires`, which no public call has.
-fn count<D: Device, F: Fn(Mark) -> bool>(campaign: &Campaign<D>, members: u16, is_kind: F) -> usize
-    requires { F.IsAlwaysCallable is_kind }
-{
-    (1..members)
-        .filter(|fault| matches!(campaign.mark(*fault), Ok(mark) if is_kind(mark)))
-        .count()
-}
-
 // Prints a kept sequence: how many letters it adds to the sum, none where it cannot be read out.
 fn show_sequence<D: Device>(
     rt: &impl Print,
@@ -190,7 +184,7 @@ fn show_sequence<D: Device>(
         println!(rt; "")?;
         return Ok(0);
     };
-    println!(rt; "{}", Letters(&buffer[..length]))?;
+    println!(rt; "{}", Spaced(&buffer[..length]))?;
     Ok(length)
 }
 
@@ -206,14 +200,17 @@ fn many_gates(heap: Global) -> Result<Vec<Gate>, AllocError> {
 
 // Many steps of a device, with a fault: the last state and a sum of the outputs.
 fn show_steps(rt: &impl Print, device: &impl Device) -> io::Result<()> {
-    let (state, sum) = (0u32..200000).fold((0, 0u32), |(state, sum), clock| {
-        let (next, output) = device.step(700, state, (clock % 64) as u8);
-        (next, sum.wrapping_add(output))
-    });
+    let (state, sum) = (0u8..64)
+        .cycle()
+        .take(200_000)
+        .fold((0, 0u32), |(state, sum), letter| {
+            let (next, output) = device.step(700, state, letter);
+            (next, sum.wrapping_add(output))
+        });
     println!(rt; "200000 steps of 512 nets: state {state}, sum {sum}")
 }
 
-// The steps of a list with 512 nets and eight flip-flops.
+// The steps of a list with 512 nets and eight flip-flops. A refused one is told, and the program goes on.
 fn steps(rt: &(impl Print + AllocGlobal)) -> anyhow::Result<()> {
     let gates = many_gates(rt.alloc())?;
     match Gates::new(

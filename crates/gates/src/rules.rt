@@ -6,7 +6,6 @@ use machine::Pins;
 
 // The net of the first gate: the pins and flip-flops come before it.
 pub(crate) fn first_gate(pins: Pins, loads: &[u16]) -> usize
-    requires { length loads.now ≤ 8 }
     ensures { result ≡ pins.count + length loads.now }
 {
     usize::from(pins.count) + loads.len()
@@ -14,7 +13,6 @@ pub(crate) fn first_gate(pins: Pins, loads: &[u16]) -> usize
 
 // How many nets there are.
 pub(crate) fn net_count(pins: Pins, gates: &[Gate], loads: &[u16]) -> usize
-    requires { length loads.now ≤ 8 }
     ensures { result ≡ net_count pins.count gates.now loads.now }
 {
     first_gate(pins, loads) + gates.len()

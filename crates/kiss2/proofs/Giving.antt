@@ -2,10 +2,10 @@
 use Rattle.std.proofs.Common.{◌≡◌, ℕ, ◌+◌, ◌-◌, ◌*◌, ◌^◌, ◌<◌, ◌≤◌, List, [], ◌∷◌, ◌++◌, length, get_or, take, drop, Some, None, Ok, Err, Option, Result, sym, refl, ap, ◌∙◌, mul-le-mul_right, mul_assoc, mul_comm, mul-le-mul, arith, pow_mono, pow-add}
 use Rattle.std.proofs.lemmas.Slice.{first_rest}
 use Rattle.std.proofs.lemmas.Bool.{cond-true, eq-eqb}
-use Rattle.machine.specs.declared.refusal.Refusal.{Refusal}
 use Rattle.devices.specs.declared.cell.Cell.{Cell}
 use Rattle.kiss2.specs.Rows.{places}
 use Rattle.kiss2.specs.Placing.{Placed, Table, and_then, put_all, put_at}
+use Rattle.kiss2.specs.declared.filling.Clash.{Clash}
 
 -- one place after some others
 put_append : (c : Cell) (ks js : List ℕ) (t : Table) → put_all c (ks ++ js) t ≡ and_then (put_all c ks t) (put_all c js)
@@ -17,9 +17,9 @@ put_append c (k ∷ ks) js t = go (put_at c k t) (put_append c ks js)
     go (Some u) more = more u
 
 -- some places, and then others
-pub placed_both : (c : Cell) (ks js : List ℕ) (t u : Table) (r : Result Unit Refusal) (v : Table) → put_all c ks t ≡ Some u → Placed (put_all c js u) r v → Placed (put_all c (ks ++ js) t) r v
+pub placed_both : (c : Cell) (ks js : List ℕ) (t u : Table) (r : Result Unit Clash) (v : Table) → put_all c ks t ≡ Some u → Placed (put_all c js u) r v → Placed (put_all c (ks ++ js) t) r v
 placed_both c ks js t u (Ok _) v e f = put_append c ks js t ∙ ap (λ (x : Option Table). and_then x (put_all c js)) e ∙ f
-placed_both c ks js t u (Err d) v e f = (put_append c ks js t ∙ ap (λ (x : Option Table). and_then x (put_all c js)) e ∙ f.0, f.1)
+placed_both c ks js t u (Err _) v e f = put_append c ks js t ∙ ap (λ (x : Option Table). and_then x (put_all c js)) e ∙ f
 
 -- a place that cannot be given stops all
 pub placed_stops : (c : Cell) (ks js : List ℕ) (t : Table) → put_all c ks t ≡ None → put_all c (ks ++ js) t ≡ None

@@ -1,10 +1,9 @@
 -- Giving cells of a table one after another.
 use Rattle.std.specs.Prelude.{◌≡◌, ℕ, Bool, true, false, if◌then◌else◌, List, [], ◌∷◌, Some, None, Ok, Err, Option, Result, slice_index_or, slice_set}
-use Rattle.machine.specs.declared.refusal.Refusal.{Refusal}
-use Rattle.machine.specs.declared.refusal.Refusal.TheVariants.{RowsDisagree}
 use Rattle.devices.specs.Cells.{no_cell}
 use Rattle.devices.specs.declared.cell.Cell.{Cell}
 use Rattle.kiss2.specs.Rows.{same_cell}
+use Rattle.kiss2.specs.declared.filling.Clash.{Clash}
 
 -- cells, and which of them have been given
 pub record Table : Type 0 where
@@ -31,7 +30,7 @@ abbrev pub put_all : Cell → List ℕ → Table → Option Table
 put_all c [] t = Some t
 put_all c (k ∷ ks) t = and_then (put_at c k t) (put_all c ks)
 
--- the table is the one that there is; where there is none, rows disagree
-abbrev pub Placed : Option Table → Result Unit Refusal → Table → Type 0
+-- the table is the one that there is; where there is none, the row clashes
+abbrev pub Placed : Option Table → Result Unit Clash → Table → Type 0
 Placed x (Ok _) t = x ≡ Some t
-Placed x (Err r) t = (x ≡ None) × (r ≡ RowsDisagree)
+Placed x (Err _) t = x ≡ None

@@ -6,10 +6,13 @@ ghost use Rattle.kiss2.specs.Rows.{places};
 
 use crate::digits::{bit_of, longer};
 use devices::Cell;
-use machine::Refusal;
 
 // As many cells as a table may have.
 pub(crate) const CELLS: usize = 16384;
+
+// A row is at odds with one before it. With no value beside it, an answer is one bit.
+#[derive(Clone, Copy, PartialEq, Eq, Debug)]
+pub(crate) struct Clash;
 
 // A table being filled: its cells, which of them have been given, and the line of the first row at odds with one before it.
 // The flags stand beside the cells, since these are the caller's slice, and in an array, as libraries use no heap.
@@ -25,7 +28,7 @@ impl<'a> Filling<'a> {
     ghost use Rattle.kiss2.specs.Readers.{SameCells};
 
     // Gives the cell at a place, unless another was given there before.
-    fn give(&mut self, place: usize, cell: Cell) -> Result<(), Refusal>
+    fn give(&mut self, place: usize, cell: Cell) -> Result<(), Clash>
         requires cells { place < length self.old.cells.now }
         requires few { place < 16384 }
         ensures put { Placed (put_at cell place (table self.old.cells.now self.old.given)) result (table self.new.cells.now self.new.given) }
@@ -39,13 +42,13 @@ impl<'a> Filling<'a> {
         }
         let held = self.cells[place];
         if held != cell {
-            return Err(Refusal::RowsDisagree);
+            return Err(Clash);
         }
         Ok(())
     }
 
     // Gives the cell at each place that the digits lead to: every digit makes the place one bit longer.
-    fn give_all(&mut self, digits: &[u8], place: usize, cell: Cell) -> Result<(), Refusal>
+    fn give_all(&mut self, digits: &[u8], place: usize, cell: Cell) -> Result<(), Clash>
         requires cells { (place + 1) * 2 ^ length digits.now ≤ length self.old.cells.now }
         requires few { (place + 1) * 2 ^ length digits.now ≤ 16384 }
         ensures put { Placed (put_all cell (places digits.now place) (table self.old.cells.now self.old.given)) result (table self.new.cells.now self.new.given) }

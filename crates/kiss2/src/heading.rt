@@ -7,12 +7,13 @@ use crate::digits::has_width;
 use crate::directives::{count_of, reset_name, short_name};
 use crate::line::{Key, Row};
 use crate::part::{Part, Word};
-use machine::Refusal;
+use machine::{MOST_OUTPUTS, MOST_PINS, Refusal};
 
 // The largest count that five digits write.
 const LARGEST_COUNT: u32 = 99999;
 
 // What the directives have said so far. A flag tells the end, and no enum the stage: that rows have begun is told by their count, which is kept anyway.
+// The widths are bytes and no `machine::Pins`, since the definitions in specs/ build headings and shapes with any number.
 #[derive(Clone, Copy, PartialEq, Eq, Debug, Default)]
 pub(crate) struct Heading {
     pub(crate) inputs: Option<u8>,
@@ -44,8 +45,12 @@ impl Heading {
     {
         let mut heading = self;
         match key {
-            Key::Inputs => heading.inputs = Some(count_of(value.bytes, 1, 6)? as u8),
-            Key::Outputs => heading.outputs = Some(count_of(value.bytes, 1, 32)? as u8),
+            Key::Inputs => heading.inputs = Some(
+                count_of(value.bytes, 1, u32::from(MOST_PINS))? as u8,
+            ),
+            Key::Outputs => heading.outputs = Some(
+                count_of(value.bytes, 1, u32::from(MOST_OUTPUTS))? as u8,
+            ),
             Key::Rows => heading.rows = Some(count_of(value.bytes, 0, LARGEST_COUNT)?),
             Key::States => heading.states = Some(count_of(value.bytes, 0, LARGEST_COUNT)?),
             Key::Reset => heading.reset = Some(reset_name(value)?),

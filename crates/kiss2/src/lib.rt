@@ -6,6 +6,7 @@ mod directives;
 mod filling;
 mod heading;
 mod line;
+mod lines;
 mod names;
 mod naming;
 mod part;

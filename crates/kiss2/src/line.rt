@@ -1,4 +1,4 @@
-ghost use Rattle.std.specs.Prelude.{◌≡◌, ◌≤◌, length};
+ghost use Rattle.std.specs.Prelude.{◌≡◌};
 ghost use Rattle.kiss2.specs.Texts.{Stands, part_of, words_left};
 ghost use Rattle.kiss2.specs.Lines.{ReadsAs, directive_of, line_of, opens_with_stop, row_of};
 
@@ -111,21 +111,15 @@ fn row_of<'t>(input: Word<'t>, words: &mut Words<'t>) -> Result<Line<'t>, Refusa
     }))
 }
 
-// What the line from `start` to `end` says: its first word decides.
-pub(crate) fn parse_line<'t>(text: &'t [u8], start: usize, end: usize) -> Result<Line<'t>, Refusal>
-    requires ordered { start ≤ end }
-    requires inside { end ≤ length text.now }
-    ensures { ReadsAs text.now (line_of text.now (words_left text.now start end)) result }
+// What a line of these words says: the first decides.
+pub(crate) fn parse_line<'t>(mut words: Words<'t>) -> Result<Line<'t>, Refusal>
+    ensures { ReadsAs words.entry.text.now (line_of words.entry.text.now (words_left words.entry.text.now words.entry.at words.entry.end)) result }
 {
-    let mut words = Words {
-        text,
-        at: start,
-        end,
-    };
     let Some(first) = words.next() else {
         return Ok(Line::Blank);
     };
     match first.bytes {
+        // The project's rules name this form: full stop, letter, rest.
         [b'.', letter, rest @ ..] if rest.is_empty() => directive_of(*letter, &mut words),
         [b'.', ..] => Err(Refusal::BadLine),
         _ => row_of(first, &mut words),

@@ -41,11 +41,12 @@ impl<'t, 'a> Names<'t, 'a> {
 
     // The number of the name, if a state has it.
     #[inline(always)]
-    fn number_of(&self, name: &[u8]) -> Option<usize>
+    fn number_of(&self, name: &[u8]) -> Option<u16>
         ensures { result ≡ number_among self.now.text.now (take self.now.count self.now.entries.now) name.now }
     {
         let entries: &[Part] = &*self.entries;
-        number_among(self.text, &entries[..usize::from(self.count)], name)
+        let number = number_among(self.text, &entries[..usize::from(self.count)], name)?;
+        Some(number as u16)
     }
 
     // The number of the state that the word names: a new name is entered behind the others. A 257th is refused.
@@ -56,7 +57,7 @@ impl<'t, 'a> Names<'t, 'a> {
         ensures lent { SameNames self.old self.new }
     {
         if let Some(number) = self.number_of(word.bytes) {
-            return Ok(number as u16);
+            return Ok(number);
         }
         let number = self.count;
         if number == MOST_STATES {
@@ -80,7 +81,7 @@ impl<'t, 'a> Names<'t, 'a> {
     }
 
     // The number of the reset state: the first where none is named, and none where no state has the name.
-    pub(crate) fn reset_state(&self, reset: Option<Part>) -> Option<usize>
+    pub(crate) fn reset_state(&self, reset: Option<Part>) -> Option<u16>
         ensures { result ≡ reset_state self.now.text.now (take self.now.count self.now.entries.now) reset }
     {
         match reset {

@@ -15,7 +15,7 @@ fn side_of<'n, 'g: 'n, 'f: 'n, T>(good: &'g [T], faulty: &'f [T], side: Side) ->
     }
 }
 
-// The name of a state, as a part of the good or the faulty text, by the name entries of its side.
+// The name of a state, as a part of the good or the faulty text, by the name entries of its side. Texts and entries come one by one, as the project's rules have the call.
 pub fn name<'n, 'g: 'n, 'f: 'n>(
     good: &'g [u8],
     good_names: &[Part],
@@ -28,9 +28,9 @@ pub fn name<'n, 'g: 'n, 'f: 'n>(
 {
     let text = side_of(good, faulty, side);
     let names = side_of(good_names, faulty_names, side);
-    let part = *names.get(usize::from(state)).ok_or(Refusal::OutOfRange)?;
-    if !part.lies_in(text) {
-        return Err(Refusal::OutOfRange);
-    }
+    let part = names
+        .get(usize::from(state))
+        .filter(|part| part.lies_in(text))
+        .ok_or(Refusal::OutOfRange)?;
     Ok(part.bytes_in(text))
 }

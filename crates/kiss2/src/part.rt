@@ -2,7 +2,7 @@ ghost use Rattle.std.specs.Prelude.{◌≡◌, drop};
 ghost use Rattle.kiss2.specs.Sides.{lies_in};
 ghost use Rattle.kiss2.specs.Texts.{FitsPart, bytes_of, part_of};
 
-// A part of a text: where it begins, and how many bytes it has.
+// A part of a text: where it begins, and how many bytes it has. No slice of the text, since entries lie in the caller's slice, which lends none.
 #[derive(Clone, Copy, PartialEq, Eq, Hash, Debug, Default)]
 pub struct Part {
     pub place: u16,
@@ -41,6 +41,7 @@ impl Part {
 }
 
 // A word of a text, with its place.
+// That place and length fit 16 bits (`FitsPart`) is asked in contracts and is no ghost field: the type is public, and may ask no more of who makes a word than it did.
 #[derive(Clone, Copy, PartialEq, Eq, Hash, Debug)]
 pub struct Word<'t> {
     pub bytes: &'t [u8],

@@ -1,4 +1,4 @@
-ghost use Rattle.std.specs.Prelude.{◌≡◌, ◌+◌, ◌^◌, ◌<◌, ◌≤◌, false, length, replicate};
+ghost use Rattle.std.specs.Prelude.{◌≡◌, ◌≤◌, false, length, replicate};
 ghost use Rattle.kiss2.specs.Concluding.{shape_held};
 ghost use Rattle.kiss2.specs.Lines.{LineStands, RowStands, line_of, line_said};
 ghost use Rattle.kiss2.specs.Progressing.{LinesRead, nothing_read};
@@ -11,43 +11,13 @@ use crate::digits::output_word;
 use crate::filling::Filling;
 use crate::heading::Heading;
 use crate::line::{Line, Row, parse_line};
+use crate::lines::Lines;
 use crate::names::Names;
 use crate::refused::Refused;
-use crate::scanning::line_length;
+use crate::scanning::Words;
 use crate::shape::Shape;
 use devices::Cell;
 use machine::Refusal;
-
-// Where a line begins, and its number.
-#[derive(Clone, Copy)]
-struct LineStart {
-    place: usize,
-    number: usize,
-}
-
-impl LineStart {
-    // The first line. Lines are counted from 1.
-    fn first() -> LineStart
-        ensures { result ≡ record { place = 0; number = 1 } }
-    {
-        LineStart {
-            place: 0,
-            number: 1,
-        }
-    }
-
-    // The line behind the line end at `end`.
-    fn next(self, end: usize) -> LineStart
-        requires number { self.number < 2 ^ 32 }
-        requires end { end < 2 ^ 32 }
-        ensures { result ≡ record { place = end + 1; number = self.number + 1 } }
-    {
-        LineStart {
-            place: end + 1,
-            number: self.number + 1,
-        }
-    }
-}
 
 // Whether a count is stated that is not the one found.
 fn miscounted(stated: Option<u32>, found: usize) -> bool
@@ -122,26 +92,24 @@ impl Reader {
         }
     }
 
-    // Reads the line from `start` to `end` and takes what it says.
+    // Reads a line by its words and takes what it says.
     fn read_line(
         &mut self,
         names: &mut Names,
         table: &mut Filling,
-        start: usize,
-        end: usize,
+        words: Words,
         line: usize,
     ) -> Result<(), Refusal>
-        requires ordered { start ≤ end }
-        requires inside { end ≤ length names.old.text.now }
+        requires text { words.text.now ≡ names.old.text.now }
         requires reads { Reads self.old names.old table.old }
-        ensures { Steps (λ s. take_said names.old.text.now line s (line_of names.old.text.now (words_left names.old.text.now start end))) self.old names.old table.old result self.new names.new table.new }
+        ensures { Steps (λ s. take_said names.old.text.now line s (line_of names.old.text.now (words_left names.old.text.now words.entry.at words.entry.end))) self.old names.old table.old result self.new names.new table.new }
     {
-        let said = parse_line(names.text, start, end)?;
+        let said = parse_line(words)?;
         self.take_line(names, table, line, said)
     }
 
     // Reads the lines one after another, up to the first that is refused.
-    // A loop, since words have places in the text, and the pieces of a split do not say where they stand.
+    // By an iterator of its own, since words have places in the text, and the pieces of a split do not say where they stand.
     pub(crate) fn read_lines(
         &mut self,
         names: &mut Names,
@@ -152,20 +120,11 @@ impl Reader {
         ensures read { LinesRead names.old.text.now table.old.cells.now names.old.entries.now result (progress self.new names.new table.new) names.new.entries.now (filled table.new) }
         ensures lent { SameLoans names.old table.old names.new table.new }
     {
-        let text = names.text;
-        let mut start = LineStart::first();
-        loop {
-            let place = start.place;
-            let line = start.number;
-            let end = place + line_length(&text[place..]);
-            if let Err(refusal) = self.read_line(names, table, place, end, line) {
-                return Err(Refused { refusal, line });
-            }
-            if end == text.len() {
-                return Ok(());
-            }
-            start = start.next(end);
+        for (line, words) in Lines::of(names.text) {
+            self.read_line(names, table, words, line)
+                .map_err(|refusal| Refused { refusal, line })?;
         }
+        Ok(())
     }
 
     // The shape of the table once all lines are read.
@@ -186,7 +145,7 @@ impl Reader {
             outputs: heading.outputs.unwrap_or(0),
             rows: self.rows,
             states,
-            reset: reset as u16,
+            reset,
         };
         let cells = shape.cell_count();
         if table.cells.len() < cells {

@@ -5,7 +5,7 @@ use machine::Refusal;
 use std::error::Error;
 use std::fmt;
 
-// Why a text was refused, and at which line, counted from 1; 0 where no line is at fault, since that is the number that the report prints there.
+// Why a text was refused, and at which line, counted from 1; 0 where no line is at fault: callers and the report's readers are promised that number, so it is no `Option`.
 #[derive(Clone, Copy, PartialEq, Eq, Debug)]
 pub struct Refused {
     pub refusal: Refusal,

@@ -50,7 +50,7 @@ fn word_length(line: &[u8]) -> usize
     line.iter().take_while(|byte| !ends_word(**byte)).count()
 }
 
-// The words of a line that are left: those of the text from `at` to `end`.
+// The words of a line that are left: those of the text from `at` to `end`. The whole text with two places, since a word's place is counted in it.
 #[derive(Drop)]
 pub(crate) struct Words<'t> {
     pub(crate) text: &'t [u8],

@@ -22,7 +22,7 @@ pub trait Device {
     fn reset(&self, member: u16) -> u16
         ensures { result ≡ reset_of (meaning self.now) member };
 
-    // Where the member goes, and its output word. Three numbers, as of these three together nothing is known: each may be out of range by itself.
+    // Where the member goes, and its output word. Three numbers and no struct, as nothing is known of them together: each may be out of range by itself.
     fn step(&self, member: u16, state: u16, letter: u8) -> (u16, u32)
         ensures { result ≡ step_of (meaning self.now) member state letter };
 }

@@ -1,4 +1,8 @@
 // The limits of devices, once for all crates. Specs and clauses write the numbers themselves, so that a wrong one here is refused.
+pub const MOST_PINS: u8 = 6;
+
+pub const MOST_OUTPUTS: u8 = 32;
+
 pub const MOST_FAULTS: usize = 1024;
 
 pub const MOST_STATES: u16 = 256;

@@ -1,5 +1,6 @@
 ghost use Rattle.std.specs.Prelude.{◌≡◌, ◌^◌, ◌≤◌};
 
+use crate::limits::MOST_PINS;
 use crate::refusal::Refusal;
 
 // How many input pins a device has.
@@ -34,7 +35,7 @@ impl TryFrom<u8> for Pins {
 
     fn try_from(count: u8) -> Result<Pins, Refusal> {
         match count {
-            1..=6 => Ok(Pins { count }),
+            1..=MOST_PINS => Ok(Pins { count }),
             _ => Err(Refusal::OutsideDeviceRules),
         }
     }

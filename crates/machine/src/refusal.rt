@@ -30,7 +30,7 @@ pub enum Refusal {
 }
 
 impl Refusal {
-    // The code stands here, and `From` passes it on.
+    // The code stands here and `From` passes it on: callers have had this function before `From` was there.
     pub fn number(self) -> u8
         ensures { result ≡ refusal_number self }
     {

@@ -3,9 +3,14 @@ use Rattle.std.specs.Prelude.{map}
 use Rattle.report.specs.Names.{visit_names}
 use Rattle.report.specs.Outcomes.{Outcome, differ, equivalent, refused}
 use Rattle.report.specs.declared.outcome.Outcome as code
+use Rattle.report.specs.declared.rejection.Rejection.{Rejection}
 use Rattle.report.specs.declared.outcome.Outcome.TheVariants.{Refused, Differ, Equivalent}
 
+-- a refusal, of one text or of both, at its line
+abbrev pub rejected : Rejection → Outcome
+rejected r = refused r.error.refusal r.side r.error.line
+
 abbrev pub told : code.Outcome → Outcome
-told (Refused r side) = refused r.refusal side r.line
+told (Refused r) = rejected r
 told (Differ s) = differ s.width s.letters.now
 told (Equivalent l) = equivalent (map (visit_names l.good l.faulty) l.visits.now)

@@ -4,6 +4,7 @@
 mod listing;
 mod names;
 mod outcome;
+mod rejection;
 mod reporting;
 mod sequence;
 mod source;

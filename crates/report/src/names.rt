@@ -4,7 +4,7 @@ ghost use Rattle.report.specs.Names.{named};
 use kiss2::Part;
 
 // The names of a table's states, as parts of its text.
-// The names that `kiss2` fills borrow all 256 entries to write, and its `name` refuses a state without one, so that each visit's states would have to be shown to have one.
+// A name is cut here as far as its text reaches, where `kiss2::name` refuses one that does not lie in its text: one view would be two functions still.
 #[derive(Clone, Copy)]
 pub(crate) struct Names<'a> {
     pub(crate) text: &'a [u8],

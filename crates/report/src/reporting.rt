@@ -2,6 +2,7 @@ ghost use Rattle.std.specs.Prelude.{length};
 ghost use Rattle.report.specs.Reports.{Concludes, Reported};
 
 use crate::outcome::refuse;
+use crate::rejection::Rejection;
 use crate::source::Source;
 use crate::tables::Tables;
 use devices::Cell;
@@ -27,11 +28,17 @@ pub fn report<'a>(
 {
     let good = match Source::read(good, good_cells, good_names) {
         Ok(source) => source,
-        Err(error) => return refuse(report, error, Some(Side::Good)),
+        Err(error) => {
+            let side = Some(Side::Good);
+            return refuse(report, Rejection { error, side });
+        }
     };
     let faulty = match Source::read(faulty, faulty_cells, faulty_names) {
         Ok(source) => source,
-        Err(error) => return refuse(report, error, Some(Side::Faulty)),
+        Err(error) => {
+            let side = Some(Side::Faulty);
+            return refuse(report, Rejection { error, side });
+        }
     };
     let tables = Tables { good, faulty };
     tables.report(visits, marks, report)

@@ -5,6 +5,7 @@ ghost use Rattle.report.specs.Sources.{BothHeld, machines_of, names_held};
 
 use crate::listing::Listing;
 use crate::outcome::{Outcome, refuse};
+use crate::rejection::Rejection;
 use crate::sequence::Sequence;
 use crate::source::Source;
 use compare::search_pairs;
@@ -70,7 +71,7 @@ impl Tables<'_, '_> {
                 Outcome::Equivalent(listing).answer(report)
             }
             // Only work slices can be too short: there are letters for each pair of states.
-            Err(error) => refuse(report, Refusal::from(error).into(), None),
+            Err(error) => refuse(report, Rejection::of_both(error.into())),
         }
     }
 
@@ -84,7 +85,7 @@ impl Tables<'_, '_> {
         ensures { Reported (BothHeld self.now (length visits.old) (length marks.old)) report.old result report.new }
     {
         if !self.same_widths() {
-            return refuse(report, Refusal::WidthsDiffer.into(), None);
+            return refuse(report, Rejection::of_both(Refusal::WidthsDiffer));
         }
         self.compare(visits, marks, report)
     }

@@ -19,6 +19,11 @@ Written xs old (Err WorkTooShort) new = ⊥
 abbrev pub Enough : {P : Type 0} → Graph P → ℕ → ℕ → Type 0
 Enough g v w = (g.count ≤ v) × (g.count ≤ w)
 
+-- v visits and w marks are enough for so many positions, or a work slice is too short
+abbrev pub Suffices : ℕ → ℕ → ℕ → Result Unit SearchError → Type 0
+Suffices count v w (Ok _) = (count ≤ v) × (count ≤ w)
+Suffices count v w (Err e) = (e ≡ WorkTooShort) × ((v < count) ⊎ (w < count))
+
 -- a least sequence has no more letters than there are numbers, whether it was found or does not fit
 abbrev pub FewLetters : {P : Type 0} → Graph P → Result Found SearchError → Type 0
 FewLetters g (Ok (Goal n)) = n ≤ g.count

@@ -1,5 +1,5 @@
 ghost use Rattle.std.specs.Prelude.{◌≡◌, length};
-ghost use Rattle.search.specs.Answers.{FewLetters, Finds};
+ghost use Rattle.search.specs.Answers.{FewLetters, Finds, Suffices};
 
 use super::breadth_first::{Outcome, explore};
 use super::path::write_path;
@@ -16,6 +16,16 @@ pub enum Found {
     Exhausted { count: usize },
 }
 
+// Refuses work slices with fewer entries than there are positions.
+pub fn check_work<P>(count: usize, visits: &[Visit<P>], marks: &[u32]) -> Result<(), SearchError>
+    ensures { Suffices count (length visits.now) (length marks.now) result }
+{
+    if visits.len() < count || marks.len() < count {
+        return Err(SearchError::WorkTooShort);
+    }
+    Ok(())
+}
+
 // Searches for the least sequence that meets the walk's goal. No answer depends on what the work slices held.
 // Work slices are two parameters, here and in every call: a struct of them would have each contract say too that the caller's slices are still inside.
 pub fn shortest<W: Walk>(
@@ -27,10 +37,7 @@ pub fn shortest<W: Walk>(
     ensures answer { Finds (W.graph walk.now) (length visits.old) (length marks.old) answer.old result visits.new answer.new }
     ensures few { FewLetters (W.graph walk.now) result }
 {
-    let count = walk.count();
-    if visits.len() < count || marks.len() < count {
-        return Err(SearchError::WorkTooShort);
-    }
+    check_work(walk.count(), visits, marks)?;
     match explore(walk, visits, marks) {
         Outcome::Exhausted { count } => Ok(Found::Exhausted { count }),
         Outcome::Goal { at, letter } => {

@@ -10,7 +10,7 @@ mod visit;
 mod walk;
 mod worklist;
 
-pub use found::{Found, shortest};
+pub use found::{Found, check_work, shortest};
 pub use search_error::SearchError;
 pub use visit::Visit;
 pub use walk::Walk;

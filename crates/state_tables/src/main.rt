@@ -4,18 +4,11 @@
 
 use devices::Cell;
 use kiss2::{Part, Side, name};
+use machine::{MOST_PAIRS, MOST_PINS, MOST_STATES};
 use report::report;
 use search::Visit;
 use std::io;
 use std::io::{Read, Write};
-
-const CELLS: usize = 16384;
-
-const NAMES: usize = 256;
-
-const POSITIONS: usize = 65536;
-
-const BYTES: usize = 40000;
 
 // What the report slice holds at first.
 const FRESH: u8 = b'.';
@@ -30,38 +23,46 @@ struct Sizes {
     bytes: usize,
 }
 
+// What a size without a number means.
+const MOST: Sizes = Sizes {
+    cells: (MOST_STATES as usize) << MOST_PINS,
+    names: MOST_STATES as usize,
+    visits: MOST_PAIRS,
+    marks: MOST_PAIRS,
+    bytes: 40000,
+};
+
 // The number that a word writes, or the most.
 fn number(word: Option<&str>, most: usize) -> usize {
     word.and_then(|digits| digits.parse::<usize>().ok())
         .unwrap_or(most)
 }
 
-// The first entries of a slice: so many, or all where there are fewer.
-fn first<T>(count: usize, all: &mut [T]) -> &mut [T] {
-    let count = count.min(all.len());
-    &mut all[..count]
-}
-
 // Prints the report over two texts, with slices of these sizes.
-fn show(rt: &impl Print, sizes: Sizes, good: &str, faulty: &str) -> anyhow::Result<()> {
-    let mut good_cells = [Cell::default(); CELLS];
-    let mut faulty_cells = good_cells;
-    let mut good_names = [Part::default(); NAMES];
-    let mut faulty_names = good_names;
-    let mut visits = [Visit::default(); POSITIONS];
-    let mut marks = [7; POSITIONS];
-    let mut bytes = [FRESH; BYTES];
-    let bytes = first(sizes.bytes, &mut bytes);
+fn show(
+    rt: &(impl Print + AllocGlobal),
+    sizes: Sizes,
+    good: &str,
+    faulty: &str,
+) -> anyhow::Result<()> {
+    let heap = rt.alloc();
+    let mut good_cells = vec![in heap; Cell::default(); sizes.cells]?;
+    let mut good_names = vec![in heap; Part::default(); sizes.names]?;
+    let mut faulty_cells = vec![in heap; Cell::default(); sizes.cells]?;
+    let mut faulty_names = vec![in heap; Part::default(); sizes.names]?;
+    let mut visits = vec![in heap; Visit::default(); sizes.visits]?;
+    let mut marks = vec![in heap; 7; sizes.marks]?;
+    let mut bytes = vec![in heap; FRESH; sizes.bytes]?;
     let written = report(
         good.as_bytes(),
         faulty.as_bytes(),
-        first(sizes.cells, &mut good_cells),
-        first(sizes.names, &mut good_names),
-        first(sizes.cells, &mut faulty_cells),
-        first(sizes.names, &mut faulty_names),
-        first(sizes.visits, &mut visits),
-        first(sizes.marks, &mut marks),
-        bytes,
+        &mut good_cells,
+        &mut good_names,
+        &mut faulty_cells,
+        &mut faulty_names,
+        &mut visits,
+        &mut marks,
+        &mut bytes,
     );
     // A refusal prints `refused 14`; this program's lines say `refused by 14`.
     match written {
@@ -75,18 +76,18 @@ fn show(rt: &impl Print, sizes: Sizes, good: &str, faulty: &str) -> anyhow::Resu
 }
 
 // Runs one case.
-fn run(rt: &impl Print, case: &str) -> anyhow::Result<()> {
+fn run(rt: &(impl Print + AllocGlobal), case: &str) -> anyhow::Result<()> {
     let mut parts = case.split('|');
     let (Some(header), Some(good), Some(faulty)) = (parts.next(), parts.next(), parts.next()) else {
         return Ok(());
     };
     let mut words = header.split(' ');
     let sizes = Sizes {
-        cells: number(words.next(), CELLS),
-        names: number(words.next(), NAMES),
-        visits: number(words.next(), POSITIONS),
-        marks: number(words.next(), POSITIONS),
-        bytes: number(words.next(), BYTES),
+        cells: number(words.next(), MOST.cells),
+        names: number(words.next(), MOST.names),
+        visits: number(words.next(), MOST.visits),
+        marks: number(words.next(), MOST.marks),
+        bytes: number(words.next(), MOST.bytes),
     };
     println!(rt; "~{header}")?;
     show(rt, sizes, good, if faulty == "=" { good } else { faulty })

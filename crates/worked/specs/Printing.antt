@@ -1,10 +1,8 @@
--- Lists as the programs print them: each entry behind a space.
-use Rattle.std.specs.Prelude.{ℕ, List, ◌++◌, codes, flat_map}
-use Rattle.std.specs.Fmt.{decimal}
-use Rattle.machine.specs.declared.pair.Pair.{Pair}
+-- Lists as the programs print them: each item behind a space.
+use Rattle.std.specs.Prelude.{ℕ, List, [], ◌∷◌, Some, Option, codes}
+use Rattle.std.specs.Fmt.{◌++?◌}
 
-abbrev pub letters_text : List ℕ → List ℕ
-letters_text = flat_map (λ letter. codes " " ++ decimal letter)
-
-abbrev pub pairs_text : List Pair → List ℕ
-pairs_text = flat_map (λ pair. codes " " ++ decimal pair.first ++ codes "-" ++ decimal pair.second)
+-- a space and the item's text for each, by what the item's type says of its text
+abbrev pub spaced_text : {T : Type 0} → (T → Option (List ℕ)) → List T → Option (List ℕ)
+spaced_text text [] = Some []
+spaced_text text (x ∷ xs) = Some (codes " ") ++? text x ++? spaced_text text xs

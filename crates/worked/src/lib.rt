@@ -7,4 +7,4 @@ mod printing;
 
 pub use cases::worked_cases;
 pub use cells::{CELLS, NAMES, controller};
-pub use printing::{Letters, Pairs};
+pub use printing::Spaced;

@@ -11,7 +11,7 @@ use crate::rules::{first_gate, net_count};
 use crate::stuck_at::StuckAt;
 use machine::{Device, within};
 
-// How many states some flip-flops have.
+// How many states some flip-flops have. Not one function with `Pins::letters`: 256 states are past a byte, which letters are.
 pub(crate) fn state_count(flip_flops: usize) -> u16
     requires { flip_flops ≤ 8 }
     ensures { result ≡ 2 ^ flip_flops }

@@ -5,12 +5,10 @@ use crate::gates::Gates;
 use crate::gates::device::state_count;
 use crate::nets::MOST_NETS;
 use crate::rules::{first_gate, gates_ordered, name_nets, net_count};
-use machine::{Pins, Refusal};
+use machine::{MOST_OUTPUTS, Pins, Refusal};
 
-// How many flip-flops and outputs a gate list may have.
+// How many flip-flops a gate list may have.
 const MOST_LOADS: usize = 8;
-
-const MOST_OUTPUTS: usize = 32;
 
 impl<'a> Gates<'a> {
     // The device of a gate list, where it keeps the rules.
@@ -24,7 +22,10 @@ impl<'a> Gates<'a> {
         ensures { Made pins reset gates.now loads.now outputs.now result }
     {
         let pins = Pins::try_from(pins)?;
-        if loads.len() > MOST_LOADS || outputs.is_empty() || outputs.len() > MOST_OUTPUTS {
+        if loads.len() > MOST_LOADS
+            || outputs.is_empty()
+            || outputs.len() > usize::from(MOST_OUTPUTS)
+        {
             return Err(Refusal::OutsideDeviceRules);
         }
         let nets = net_count(pins, gates, loads);

@@ -10,7 +10,8 @@ abbrev pub invariant-loop-fault : goal.invariant-loop-fault
 invariant-loop-fault g l =
     let m = g.D.Device.meaning l.device in
     record {
-      passed : (f : ℕ) → 0 < f → f < l.fault → get_or l.self.marks f Open ≡ graded m (part l.kept.start l.kept.length l.initial.self.letters) l.number f (get_or l.initial.self.marks f Open);
-      others : (f : ℕ) → l.fault ≤ f → get_or l.self.marks f Open ≡ get_or l.initial.self.marks f Open;
+      end : l.fault-iterator.end ≡ m.members;
+      passed : (f : ℕ) → 0 < f → f < l.fault-iterator.start → get_or l.self.marks f Open ≡ graded m (part l.kept.start l.kept.length l.initial.self.letters) l.number f (get_or l.initial.self.marks f Open);
+      others : (f : ℕ) → l.fault-iterator.start ≤ f → get_or l.self.marks f Open ≡ get_or l.initial.self.marks f Open;
       same : SameKept l.initial.self l.self;
     }

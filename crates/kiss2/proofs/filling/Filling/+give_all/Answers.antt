@@ -52,10 +52,7 @@ returns-in_err-give_all-in-None-clause-put t c =
     let p = err_from_is_err_and c.from_residual.result c.from_residual.ensures.1 in
     let e = c.in_err-give_all-in-None.ensures.put in
     let both = both_bits ds c.args.place c.longer-in-None.result (c.args.place * 2 + 1) c.in-len1-up.len_at_least (is_dash _ _ (sym c.bit_of.ensures ∙ c.in-None.is)) c.longer-in-None.ensures refl in
-    rw (p.1, p.2) (
-      ap (λ (ks : List ℕ). put_all c.args.cell ks before) both ∙ placed_stops c.args.cell (places (rest_of ds) c.longer-in-None.result) (places (rest_of ds) (c.args.place * 2 + 1)) before e.0,
-      e.1,
-    )
+    rw p.1 (ap (λ (ks : List ℕ). put_all c.args.cell ks before) both ∙ placed_stops c.args.cell (places (rest_of ds) c.longer-in-None.result) (places (rest_of ds) (c.args.place * 2 + 1)) before e)
 
 pub returns-in_ok-give_all-in-None-clause-put : goal.returns-in_ok-give_all-in-None-clause-put
 returns-in_ok-give_all-in-None-clause-put t c =

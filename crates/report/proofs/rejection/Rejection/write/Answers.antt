@@ -1,5 +1,5 @@
 use Rattle.report.proofs.Writes.{adds_append}
-use Rattle.report.proofs.outcome.write_refusal.Goals as goal
+use Rattle.report.proofs.rejection.Rejection.write.Goals as goal
 
 pub returns : goal.returns
 returns c =
