@@ -3,7 +3,7 @@ ghost use Rattle.campaign.specs.Histories.{KeptOnce, Lawful};
 ghost use Rattle.campaign.specs.Rules.{Admitted, Fresh, Judged, ReadOut, marked};
 ghost use Rattle.campaign.specs.Tallies.{faults_marked, is_found, is_open, is_undetectable};
 
-use super::judging::{faults, is_fault};
+use super::judging::{check_fault, faults};
 use super::ledger::Ledger;
 use super::mark::Mark;
 use super::tally::Tally;
@@ -79,9 +79,7 @@ impl<D: Device> Campaign<D> {
     pub fn mark(&self, fault: u16) -> Result<Mark, Refusal>
         ensures { result ≡ marked (D.meaning self.now.device) self.now.book fault }
     {
-        if !is_fault(&self.device, fault) {
-            return Err(Refusal::NoSuchMember);
-        }
+        check_fault(&self.device, fault)?;
         Ok(self.ledger.marks[usize::from(fault)])
     }
 
@@ -92,6 +90,7 @@ impl<D: Device> Campaign<D> {
         ensures undetectable { result.undetectable ≡ faults_marked is_undetectable (D.meaning self.now.device) self.now.book }
         ensures open { result.open ≡ faults_marked is_open (D.meaning self.now.device) self.now.book }
     {
+        // A loop: the closure of a `fold` would not know that its number is a fault's, nor how many were counted.
         let mut tally = Tally::default();
         for fault in self.faults() {
             tally = tally.with(self.ledger.marks[usize::from(fault)]);

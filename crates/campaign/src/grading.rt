@@ -37,7 +37,7 @@ impl Ledger {
     }
 
     // Grades every fault by a kept sequence.
-    // By number, as the device is asked of each fault by it: `enumerate` over `iter_mut` is an adapter, behind which nothing is known of the marks.
+    // By number: `enumerate` over `iter_mut` numbers all marks of the table and not the faults alone, and `zip` with the faults is an adapter, behind which nothing is known of the marks.
     pub(crate) fn grade<D: Device>(&mut self, device: &D, kept: Kept, number: u16)
         ensures { Graded (D.meaning device.now) self.old (part kept.start kept.length self.old.letters) number self.new }
     {

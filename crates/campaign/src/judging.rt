@@ -1,4 +1,4 @@
-ghost use Rattle.std.specs.Prelude.{◌≡◌, ◌+◌, ◌≤◌, ◌↔◌, IsTrue, length};
+ghost use Rattle.std.specs.Prelude.{◌≡◌, ◌+◌, ◌≤◌, ◌↔◌, IfErr, IsOk, length};
 ghost use Rattle.std.specs.Option.{unwrap_or};
 ghost use Rattle.campaign.specs.Books.{book, part};
 ghost use Rattle.campaign.specs.Ledgers.{LeastKept, SearchedInto};
@@ -19,11 +19,15 @@ pub(crate) fn faults<D: Device>(device: &D) -> Range<u16>
     1..device.members()
 }
 
-// Whether the device has a fault of this number. A test: each of its two callers refuses by it in its own place.
-pub(crate) fn is_fault<D: Device>(device: &D, fault: u16) -> bool
-    ensures { IsTrue result ↔ Fault (D.meaning device.now) fault }
+// Refuses a number that is no fault's.
+pub(crate) fn check_fault<D: Device>(device: &D, fault: u16) -> Result<(), Refusal>
+    ensures fault { IsOk result ↔ Fault (D.meaning device.now) fault }
+    ensures refusal { IfErr result (λ r. r ≡ Refusal.NoSuchMember) }
 {
-    faults(device).contains(&fault)
+    if !faults(device).contains(&fault) {
+        return Err(Refusal::NoSuchMember);
+    }
+    Ok(())
 }
 
 impl Ledger {
@@ -90,9 +94,7 @@ impl Ledger {
     ) -> Result<Option<u16>, Refusal>
         ensures { Judged (D.meaning device.now) (book self.old) fault (length visits.old) (length marks.old) result (book self.new) }
     {
-        if !is_fault(device, fault) {
-            return Err(Refusal::NoSuchMember);
-        }
+        check_fault(device, fault)?;
         let Mark::Open = self.marks[usize::from(fault)] else {
             return Err(Refusal::FaultNotOpen);
         };

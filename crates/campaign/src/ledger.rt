@@ -6,9 +6,9 @@ use arrayvec::ArrayVec;
 use machine::MOST_FAULTS;
 
 // As many sequences as a ledger keeps, as many letters as they have together, and as many members as a device can have.
-pub(crate) const SEQUENCES: usize = 256;
+pub const SEQUENCES: usize = 256;
 
-pub(crate) const LETTERS: usize = 16384;
+pub const LETTERS: usize = 16384;
 
 pub(crate) const MEMBERS: usize = MOST_FAULTS + 1;
 
@@ -45,7 +45,7 @@ pub(crate) struct Ledger {
     ghost summed: { sum_by (λ k. k.length) kept.items ≡ used },
 }
 
-// Changes one mark, which is lent.
+// Changes one mark, which is lent: a form that the project's rules name.
 fn settle(mark: &mut Mark, to: Mark)
     ensures { mark.new ≡ to }
 {

@@ -10,5 +10,6 @@ mod mark;
 mod tally;
 
 pub use campaign::Campaign;
+pub use ledger::{LETTERS, SEQUENCES};
 pub use mark::Mark;
 pub use tally::Tally;

@@ -130,6 +130,7 @@ fn admitted(rt: &(impl Print + AllocGlobal)) -> anyhow::Result<()> {
 // Sequence 256 is kept, and the next is not: neither a client's nor one for a fault. A fault without one is judged all the same.
 fn last_number(rt: &(impl Print + AllocGlobal)) -> anyhow::Result<()> {
     let mut session = Session::begin(rt, "the last number")?;
+    // Whether they are kept is seen by the numbers that follow.
     for _ in 0..255 {
         let _ = session.campaign.admit(&[0]);
     }

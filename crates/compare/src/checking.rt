@@ -33,7 +33,7 @@ impl<'a, D: Device> Checker<'a, D> {
     fn check_letters(&self, place: usize, pair: Pair, letters: u8) -> Option<Flaw>
         ensures { result ≡ flaw_at_letters (D.meaning self.now.product.device.now) self.now.product.first self.now.product.second (has_pair self.now.listed.now) place pair 0 letters }
     {
-        // A loop: with a `find_map` the whole check took half as many instructions again.
+        // A loop: with a `find_map` here the whole check took 103 million instructions for 65 million, and 70 million was the bar.
         for letter in 0..letters {
             let flaw = self.check_letter(place, pair, letter);
             if flaw.is_some() {

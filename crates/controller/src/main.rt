@@ -10,7 +10,7 @@ use worked::{NAMES, Spaced, controller};
 
 const STATES: usize = 4;
 
-const PAIRS: usize = 16;
+const PAIRS: usize = STATES * STATES;
 
 fn name(state: u16) -> &'static str {
     NAMES.get(usize::from(state)).copied().unwrap_or("?")

@@ -4,7 +4,7 @@ ghost use Rattle.devices.specs.Cells.{cells_inside, altered_inside};
 use crate::cell::{AlteredCell, Cell};
 
 // Whether each cell leads to a state.
-// These two tests are functions: where the chains stand in `take_in` itself, the check does not find the table's rules from them.
+// These two tests are functions: where the chains stand in `Table::new` itself, the check does not find the table's rules from them.
 pub(crate) fn cells_inside(states: u16, cells: &[Cell]) -> bool
     ensures { result ≡ cells_inside states cells.now }
 {

@@ -9,6 +9,7 @@ mod taking_in;
 
 // A device given by its cells: the cell of state q and letter l stands at q * letters + l.
 // Fault k = 1, 2, .. has the altered cell k - 1 in the place of a good cell, and all other cells as they are.
+// Letters are counted here and not by `Pins`, from which each step would work the count out anew.
 #[derive(Clone, Copy, PartialEq, Eq, Hash, Debug)]
 pub struct Table<'a> {
     cells: &'a [Cell],

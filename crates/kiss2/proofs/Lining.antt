@@ -41,7 +41,7 @@ all_left text = cond-true _ _ _ (le-leb 0 (length text) (omega arith))
 
 module _ (text : List ℕ) (start end : ℕ) (inside : start ≤ length text) (is : end ≡ start + line_length (drop start text)) where
   -- a line ends in the text
-  pub line_ends : end ≤ length text
+  line_ends : end ≤ length text
   line_ends = omega (arith, is, prefix_len-le-length in_line (drop start text), length-drop start text, inside)
 
   -- no line follows the last one

@@ -14,7 +14,7 @@ fn is_count(bytes: &[u8]) -> bool
 }
 
 // The number that up to five digits write.
-// By a loop, as `output_word`. A `parse` takes text, and these bytes would first have to be shown to be text.
+// By a loop, as `output_word`. A `parse` takes text, so the bytes would be tested for being text, and then again for being digits.
 fn decimal(bytes: &[u8]) -> u32
     requires { is_count bytes.now ≡ true }
     ensures { result ≡ decimal bytes.now }

@@ -6,9 +6,7 @@ ghost use Rattle.kiss2.specs.Rows.{places};
 
 use crate::digits::{bit_of, longer};
 use devices::Cell;
-
-// As many cells as a table may have.
-pub(crate) const CELLS: usize = 16384;
+use machine::MOST_CELLS;
 
 // A row is at odds with one before it. With no value beside it, an answer is one bit.
 #[derive(Clone, Copy, PartialEq, Eq, Debug)]
@@ -19,7 +17,7 @@ pub(crate) struct Clash;
 #[derive(Drop)]
 pub(crate) struct Filling<'a> {
     pub(crate) cells: &'a mut [Cell],
-    pub(crate) given: [bool; CELLS],
+    pub(crate) given: [bool; MOST_CELLS],
     pub(crate) clash: Option<usize>,
     ghost whole: { length given ≡ 16384 },
 }

@@ -13,7 +13,7 @@ use machine::{MOST_OUTPUTS, MOST_PINS, Refusal};
 const LARGEST_COUNT: u32 = 99999;
 
 // What the directives have said so far. A flag tells the end, and no enum the stage: that rows have begun is told by their count, which is kept anyway.
-// The widths are bytes and no `machine::Pins`, since the definitions in specs/ build headings and shapes with any number.
+// The widths are bytes and no `machine::Pins`: they go into a `Shape`, which is public and asks nothing of its bytes.
 #[derive(Clone, Copy, PartialEq, Eq, Debug, Default)]
 pub(crate) struct Heading {
     pub(crate) inputs: Option<u8>,

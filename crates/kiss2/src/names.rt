@@ -16,8 +16,6 @@ fn is_name(text: &[u8], part: Part, name: &[u8]) -> bool
 }
 
 // The number of the name among the entries, if it is among them.
-// Inlined with its callers: reading a text takes most of its time here.
-#[inline(always)]
 fn number_among(text: &[u8], entries: &[Part], name: &[u8]) -> Option<usize>
     ensures { result ≡ number_among text.now entries.now name.now }
 {
@@ -40,7 +38,6 @@ impl<'t, 'a> Names<'t, 'a> {
     ghost use Rattle.kiss2.specs.Readers.{SameNames};
 
     // The number of the name, if a state has it.
-    #[inline(always)]
     fn number_of(&self, name: &[u8]) -> Option<u16>
         ensures { result ≡ number_among self.now.text.now (take self.now.count self.now.entries.now) name.now }
     {
@@ -50,7 +47,6 @@ impl<'t, 'a> Names<'t, 'a> {
     }
 
     // The number of the state that the word names: a new name is entered behind the others. A 257th is refused.
-    #[inline(always)]
     fn number(&mut self, word: Word) -> Result<u16, Refusal>
         requires { Stands self.old.text.now word }
         ensures enlisted { Enlisted self.old.text.now (take self.old.count self.old.entries.now) (part_of word.entry) self.old.entries.now result self.new.entries.now self.new.count }

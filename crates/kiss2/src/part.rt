@@ -31,9 +31,8 @@ impl Part {
         ensures { result.now ≡ bytes_of text.now self }
     {
         let place = usize::from(self.place);
-        let end = place + usize::from(self.length);
-        if end <= text.len() {
-            &text[place..end]
+        if self.lies_in(text) {
+            &text[place..place + usize::from(self.length)]
         } else {
             rest_of(text, place)
         }

@@ -108,8 +108,9 @@ impl Reader {
         self.take_line(names, table, line, said)
     }
 
-    // Reads the lines one after another, up to the first that is refused.
+    // Reads the lines one after another, counted from 1, up to the first that is refused.
     // By an iterator of its own, since words have places in the text, and the pieces of a split do not say where they stand.
+    #[tactic(auto, using(crate::proofs::LineByLine::starts))]
     pub(crate) fn read_lines(
         &mut self,
         names: &mut Names,
@@ -120,7 +121,7 @@ impl Reader {
         ensures read { LinesRead names.old.text.now table.old.cells.now names.old.entries.now result (progress self.new names.new table.new) names.new.entries.now (filled table.new) }
         ensures lent { SameLoans names.old table.old names.new table.new }
     {
-        for (line, words) in Lines::of(names.text) {
+        for (line, words) in (1..).zip(Lines::of(names.text)) {
             self.read_line(names, table, words, line)
                 .map_err(|refusal| Refused { refusal, line })?;
         }
@@ -140,6 +141,7 @@ impl Reader {
         let reset = names
             .reset_state(heading.reset)
             .ok_or(Refusal::CountMismatch)?;
+        // Without widths there are no rows: the text is refused below, behind what comes first in the order of refusals.
         let shape = Shape {
             inputs: heading.inputs.unwrap_or(0),
             outputs: heading.outputs.unwrap_or(0),

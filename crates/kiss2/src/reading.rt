@@ -1,14 +1,14 @@
 ghost use Rattle.std.specs.Prelude.{◌↔◌, ◌<◌, length, IsTrue};
 ghost use Rattle.kiss2.specs.Concluding.{Read};
 
-use crate::filling::{CELLS, Filling};
+use crate::filling::Filling;
 use crate::names::Names;
 use crate::part::Part;
 use crate::reader::Reader;
 use crate::refused::Refused;
 use crate::shape::Shape;
 use devices::Cell;
-use machine::{MOST_STATES, Refusal};
+use machine::{MOST_CELLS, MOST_STATES, Refusal};
 
 // As many bytes as a text may have.
 const TEXT: usize = 16384;
@@ -38,7 +38,7 @@ pub fn read(text: &[u8], cells: &mut [Cell], names: &mut [Part]) -> Result<Shape
     };
     let mut table = Filling {
         cells,
-        given: [false; CELLS],
+        given: [false; MOST_CELLS],
         clash: None,
     };
     let mut reader = Reader::default();

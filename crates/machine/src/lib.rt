@@ -11,7 +11,7 @@ mod range;
 mod refusal;
 
 pub use device::Device;
-pub use limits::{MOST_FAULTS, MOST_OUTPUTS, MOST_PAIRS, MOST_PINS, MOST_STATES};
+pub use limits::{MOST_CELLS, MOST_FAULTS, MOST_OUTPUTS, MOST_PAIRS, MOST_PINS, MOST_STATES};
 pub use numbering::row_major;
 pub use output::outputs_differ;
 pub use pair::Pair;

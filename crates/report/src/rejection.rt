@@ -25,21 +25,8 @@ fn side_word(side: Option<Side>) -> &'static [u8]
 }
 
 impl Rejection {
-    ghost use Rattle.std.specs.Prelude.{None};
     ghost use Rattle.report.specs.Told.{rejected};
     ghost use Rattle.report.specs.Writing.{Adds};
-
-    // A refusal of both texts, with which no line is at fault.
-    pub(crate) fn of_both(refusal: Refusal) -> Rejection
-        ensures refusal { result.error.refusal ≡ refusal }
-        ensures line { result.error.line ≡ 0 }
-        ensures side { result.side ≡ None }
-    {
-        Rejection {
-            error: refusal.into(),
-            side: None,
-        }
-    }
 
     // Writes its line.
     pub(crate) fn write(&self, out: &mut Writer)
@@ -50,5 +37,19 @@ impl Rejection {
         out.push(b' ');
         out.push_all(side_word(self.side));
         out.push_count(b" ", self.error.line);
+    }
+}
+
+// A refusal of both texts, with which no line is at fault.
+impl From<Refusal> for Rejection {
+    ghost use Rattle.report.specs.Told.{of_both};
+
+    ghost from_gives = { λ refusal rejection. rejection ≡ of_both refusal };
+
+    fn from(refusal: Refusal) -> Rejection {
+        Rejection {
+            error: refusal.into(),
+            side: None,
+        }
     }
 }

@@ -26,6 +26,7 @@ pub fn report<'a>(
 ) -> Result<usize, Refusal>
     ensures { Reported (Concludes good.now faulty.now (length good_cells.old) (length good_names.old) (length faulty_cells.old) (length faulty_names.old) (length visits.old) (length marks.old)) report.old result report.new }
 {
+    // Two matches: a function of both, with `?`, would be handed the six slices once more.
     let good = match Source::read(good, good_cells, good_names) {
         Ok(source) => source,
         Err(error) => {

@@ -5,12 +5,11 @@ ghost use Rattle.report.specs.Sources.{BothHeld, machines_of, names_held};
 
 use crate::listing::Listing;
 use crate::outcome::{Outcome, refuse};
-use crate::rejection::Rejection;
 use crate::sequence::Sequence;
 use crate::source::Source;
 use compare::search_pairs;
 use layers::Rivals;
-use machine::{MOST_PAIRS, Pair, Refusal};
+use machine::{MOST_PAIRS, Pair, Pins, Refusal};
 use search::{Found, SearchError, Visit};
 
 // Two state tables that are set side by side.
@@ -56,8 +55,9 @@ impl Tables<'_, '_> {
         let mut letters = [0; MOST_PAIRS];
         match self.search(visits, marks, &mut letters) {
             Ok(Found::Goal { length }) => {
+                let count = self.good.shape.inputs;
                 let sequence = Sequence {
-                    width: self.good.shape.inputs,
+                    pins: Pins { count },
                     letters: &letters[..length],
                 };
                 Outcome::Differ(sequence).answer(report)
@@ -71,7 +71,7 @@ impl Tables<'_, '_> {
                 Outcome::Equivalent(listing).answer(report)
             }
             // Only work slices can be too short: there are letters for each pair of states.
-            Err(error) => refuse(report, Rejection::of_both(error.into())),
+            Err(error) => refuse(report, Refusal::from(error).into()),
         }
     }
 
@@ -85,7 +85,7 @@ impl Tables<'_, '_> {
         ensures { Reported (BothHeld self.now (length visits.old) (length marks.old)) report.old result report.new }
     {
         if !self.same_widths() {
-            return refuse(report, Rejection::of_both(Refusal::WidthsDiffer));
+            return refuse(report, Refusal::WidthsDiffer.into());
         }
         self.compare(visits, marks, report)
     }

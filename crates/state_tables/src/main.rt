@@ -4,7 +4,7 @@
 
 use devices::Cell;
 use kiss2::{Part, Side, name};
-use machine::{MOST_PAIRS, MOST_PINS, MOST_STATES};
+use machine::{MOST_CELLS, MOST_PAIRS, MOST_STATES};
 use report::report;
 use search::Visit;
 use std::io;
@@ -25,7 +25,7 @@ struct Sizes {
 
 // What a size without a number means.
 const MOST: Sizes = Sizes {
-    cells: (MOST_STATES as usize) << MOST_PINS,
+    cells: MOST_CELLS,
     names: MOST_STATES as usize,
     visits: MOST_PAIRS,
     marks: MOST_PAIRS,

@@ -19,8 +19,5 @@ few_err g (Ok f) e least = cc
 few_err g (Err WorkTooShort) e least = tt
 few_err g (Err AnswerTooShort) e least = least
 
-pub returns-in_ok-length-in-Goal-clause-few : goal.returns-in_ok-length-in-Goal-clause-few
-returns-in_ok-length-in-Goal-clause-few g c = omega (arith, c.in_ok-length-in-Goal.ensures.few, c.in-Goal.ensures.early)
-
 pub returns-in_err-length-in-Goal-clause-few : goal.returns-in_err-length-in-Goal-clause-few
 returns-in_err-length-in-Goal-clause-few g c = few_err _ _ c.from_residual-in_err-length-in-Goal.ensures.0 (few c.in-Goal.ensures.explored c.in-Goal.ensures.early)

@@ -11,9 +11,8 @@ returns-clause-steps c =
     let rest = c.in_ok-get.ensures.lookup.0 in
     record {
       first = first_left text left.place _ rest.0 (ap (λ (k : ℕ). left.place + k) (c.line_length.ensures.value ∙ ap line_length (rest.2 ∙ take_rest text left.place)));
-      number_is = refl;
-      next_number = refl;
       place = refl;
+      next_place = refl;
       text = refl;
       same_text = refl;
     }

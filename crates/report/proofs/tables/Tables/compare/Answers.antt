@@ -23,4 +23,4 @@ returns-in-Ok-Exhausted c =
 pub returns-in-Err : goal.returns-in-Err
 returns-in-Err c =
     let h = too_few c.args.self.now _ _ _ _ c.search.new.visits c.in-Err.error refl c.in-Err.ensures.answer c.in-Err.ensures.few in
-    (refused WorkTooShort None 0, inl (refl, h.1), rw (c.of_both.ensures.refusal, c.of_both.ensures.line, c.of_both.ensures.side, c.into.ensures, h.0) at c.refuse.ensures)
+    (refused WorkTooShort None 0, inl (refl, h.1), rw (c.into.ensures, c.from.ensures, h.0) at c.refuse.ensures)

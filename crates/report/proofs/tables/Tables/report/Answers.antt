@@ -8,4 +8,4 @@ pub returns-then-not-same_widths : goal.returns-then-not-same_widths
 returns-then-not-same_widths c =
     let t = c.args.self.now in
     let apart : same_widths t.good.shape t.faulty.shape ≡ false = cc in
-    (refused WidthsDiffer None 0, inl (refl, apart), rw (c.of_both.ensures.refusal, c.of_both.ensures.line, c.of_both.ensures.side) at c.refuse.ensures)
+    (refused WidthsDiffer None 0, inl (refl, apart), rw c.into.ensures at c.refuse.ensures)
