@@ -55,7 +55,7 @@ impl<'a, R: Print + AllocGlobal> Session<'a, R> {
         }
     }
 
-    // By hand, since this line has hyphens where a mark and a refusal print spaces.
+    // By hand, since this line has hyphens where a mark and a refusal print spaces, and outputs are stored.
     fn show_marks(&self) -> io::Result<()> {
         let rt = self.rt;
         print!(rt; "  marks:")?;

@@ -12,6 +12,7 @@ const STATES: usize = 4;
 
 const PAIRS: usize = STATES * STATES;
 
+// The name of a state; each has one.
 fn name(state: u16) -> &'static str {
     NAMES.get(usize::from(state)).copied().unwrap_or("?")
 }
@@ -23,7 +24,7 @@ fn show_pairs(rt: &impl Print, pairs: &[Pair]) -> io::Result<()> {
     Ok(())
 }
 
-// The controller, and where what is found of it is printed.
+// The controller, and where what is found of it is printed. `edges` has one like it: their methods differ, and an inherent impl stands beside its type.
 #[derive(Drop)]
 struct Session<'a, R> {
     rt: &'a R,

@@ -388,7 +388,7 @@ impl<R: Print + AllocGlobal> Session<'_, '_, R> {
         Ok(())
     }
 
-    // The words are this program's own: the one that prints the controller puts `at place` for `, place`.
+    // The words are this program's own: the one that prints the controller puts `at place` for `, place`, and outputs are stored.
     fn try_check(&self, first: u16, second: u16, pairs: &[Pair]) -> io::Result<()> {
         print!(self.rt; "check for {first} and {second}{}: ", Spaced(pairs))?;
         match check(&self.table, first, second, pairs) {

@@ -8,7 +8,7 @@ use crate::digits::{bit_of, longer};
 use devices::Cell;
 use machine::MOST_CELLS;
 
-// A row is at odds with one before it. With no value beside it, an answer is one bit.
+// A row is at odds with one before it. With no value beside it, an answer is one bit: a `Refusal` in its place took a tenth more instructions.
 #[derive(Clone, Copy, PartialEq, Eq, Debug)]
 pub(crate) struct Clash;
 
@@ -65,7 +65,7 @@ impl<'a> Filling<'a> {
         }
     }
 
-    // Gives the cells of a row at a line, unless a row was at odds before or some cell lies past the slice.
+    // Gives the cells of a row at a line, unless a row was at odds before or some cell lies past the slice. Both are told at the end, as the order of refusals asks.
     pub(crate) fn give_row(&mut self, line: usize, digits: &[u8], state: u16, cell: Cell)
         requires digits { length digits.now ≤ 6 }
         requires state { state < 256 }

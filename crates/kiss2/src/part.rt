@@ -40,7 +40,7 @@ impl Part {
 }
 
 // A word of a text, with its place.
-// That place and length fit 16 bits (`FitsPart`) is asked in contracts and is no ghost field: the type is public, and may ask no more of who makes a word than it did.
+// That place and length fit 16 bits (`FitsPart`) and that a word stands in its text (`Stands`) is asked in contracts and is no ghost field: the type is public and knows no text, and may ask no more of who makes a word than it did.
 #[derive(Clone, Copy, PartialEq, Eq, Hash, Debug)]
 pub struct Word<'t> {
     pub bytes: &'t [u8],

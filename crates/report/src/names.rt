@@ -12,7 +12,7 @@ pub(crate) struct Names<'a> {
 }
 
 impl<'a> Names<'a> {
-    // The name of a state; empty where there is no such state.
+    // The name of a state; empty where there is no such state, so that nothing asks that there is one.
     pub(crate) fn of(self, state: u16) -> &'a [u8]
         ensures { result.now ≡ named self.entry state }
     {

@@ -86,7 +86,7 @@ fn show(rt: &(impl Print + AllocGlobal), table: &Table, second: u16) -> anyhow::
 
 fn main(rt: HostRuntime) -> anyhow::Result<()> {
     let cells = cells(rt.alloc())?;
-    // A refused table is told, and the program goes on with the idle one: a `?` would end it.
+    // A refused table is told, in words of this program's own, and it goes on with the idle one: a `?` would end it.
     let table = match Table::new(6, MOST_STATES, 0, &cells, &ALTERED) {
         Ok(table) => table,
         Err(refusal) => {

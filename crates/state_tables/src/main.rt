@@ -64,7 +64,7 @@ fn show(
         &mut marks,
         &mut bytes,
     );
-    // A refusal prints `refused 14`; this program's lines say `refused by 14`.
+    // A refusal prints `refused 14`; this program's lines, here and for names, say `refused by 14`, and outputs are stored.
     match written {
         Ok(length) => io::writer(rt).write_all(&bytes[..length])?,
         Err(refusal) => {
