@@ -1,8 +1,7 @@
 -- What a write behind the used letters of a ledger leaves: the same entries.
-use Rattle.std.proofs.Common.{◌≡◌, ℕ, suc, ◌+◌, ◌≤◌, List, [], ◌∷◌, map, take, drop, All, length, length-drop, sum_by, sym, refl, ap, ◌∙◌, arith}
-use Rattle.std.proofs.lemmas.List.{take-take, drop-take, length-take-le}
-use Rattle.std.proofs.lemmas.List.Sums.{sum_by-cons}
-use Rattle.campaign.specs.Books.{Entry, part, entry_of, letters_in, book}
+use Rattle.std.proofs.Common.{◌≡◌, ℕ, suc, ◌+◌, ◌≤◌, List, [], ◌∷◌, map, take, drop, All, sym, refl, ap, ◌∙◌, arith}
+use Rattle.std.proofs.lemmas.List.{take-take, drop-take}
+use Rattle.campaign.specs.Books.{Entry, entry_of, book}
 use Rattle.campaign.specs.declared.ledger.Kept.{Kept}
 use Rattle.campaign.specs.declared.ledger.Ledger.{Ledger}
 
@@ -23,17 +22,3 @@ entries_same (k ∷ ks) u xs ys inside e =
 -- what a ledger says with these letters in place of its own
 pub book_same : (l : Ledger) (letters : List ℕ) → take l.used letters ≡ take l.used l.letters → record { marks = l.marks; kept = map (entry_of letters) l.kept.items } ≡ book l
 book_same l letters front = ap (λ (es : List Entry). record { marks = l.marks; kept = es }) (entries_same l.kept.items l.used letters l.letters l.inside front)
-
--- how many letters the entries have together
-letters_total : (letters : List ℕ) (ks : List Kept) → All (λ k. k.start + k.length ≤ length letters) ks → sum_by (λ e. length e.letters) (map (entry_of letters) ks) ≡ sum_by (λ k. k.length) ks
-letters_total letters [] inside = refl
-letters_total letters (k ∷ ks) inside =
-    let fits = inside 0 k (omega arith) in
-    let here : length (part k.start k.length letters) ≡ k.length = length-take-le k.length (drop k.start letters) (omega (arith, length-drop k.start letters)) in
-    let rest = letters_total letters ks (λ i d low. inside (suc i) d (omega arith)) in
-    omega (arith, sum_by-cons {X = Entry}, sum_by-cons {X = Kept})
-
-pub letters_used : (l : Ledger) → length l.letters ≡ 16384 → letters_in (book l).kept ≡ l.used
-letters_used l full =
-    let few = l.few in
-    letters_total l.letters l.kept.items (λ i d low. let lies = l.inside i d low in omega arith) ∙ l.summed

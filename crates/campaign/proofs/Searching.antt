@@ -15,9 +15,10 @@ use Rattle.search.specs.declared.search_error.SearchError.TheVariants.{WorkTooSh
 use Rattle.search.specs.declared.visit.Visit.{Visit}
 use Rattle.campaign.specs.Books.{Book, book, letters_in, part}
 use Rattle.campaign.specs.Ledgers.{NextPlace, FoundNext, SearchedInto}
+use Rattle.campaign.specs.Limits.{letters_used}
 use Rattle.campaign.specs.Rules.{HasNumber}
 use Rattle.campaign.specs.declared.ledger.Ledger.{Ledger}
-use Rattle.campaign.proofs.Entries.{book_same, letters_used}
+use Rattle.campaign.proofs.Entries.{book_same}
 
 -- the part from a place on holds a sequence that was written into its first entries
 written : (start n : ℕ) (xs s rest : List ℕ) → start ≤ length xs → length s ≡ n → part start n (put_mid start (length xs - start) xs (s ++ rest)) ≡ s
@@ -75,10 +76,10 @@ module _ (m : Machine) (before after : Ledger) (f v w start : ℕ) (new : List �
         number = omega (arith, same_count);
         room = omega arith;
         least = rw here least;
-        fits = rw here (omega (arith, same_letters, letters_used before full));
+        fits = rw here (omega (arith, same_letters, letters_used before));
       } in
       (work, found, same)
   searched_into (Ok (Exhausted n)) xs p = (p.0, p.1, same)
   searched_into (Err WorkTooShort) xs p = (p.0, same)
   searched_into (Err AnswerTooShort) xs (work, (s, least, long), kept) =
-      (work, (s, least, λ number. let at = next.numbered (omega (arith, same_count)) in omega (arith, room, same_letters, letters_used before full)), same)
+      (work, (s, least, λ number. let at = next.numbered (omega (arith, same_count)) in omega (arith, room, same_letters, letters_used before)), same)

@@ -20,15 +20,16 @@ pub struct Campaign<D> {
     ledger: Ledger,
 }
 
-// Clauses see the device and what the ledger says.
+// Clauses see the device and what the ledger says, which is within the limits.
 impl<D> Model for Campaign<D> {
     ghost use Rattle.campaign.specs.Standings.{Standing};
 
     ghost Value = { Standing D };
 
     ghost use Rattle.campaign.specs.Books.{book};
+    ghost use Rattle.campaign.specs.Limits.{within_limits};
 
-    ghost view = { λ c. record { device = c.device; book = book c.ledger } };
+    ghost view = { λ c. record { device = c.device; book = book c.ledger; limits = within_limits c.ledger } };
 }
 
 impl<D: Device> Campaign<D> {

@@ -1,5 +1,5 @@
 ghost use Rattle.std.specs.Prelude.{◌≡◌, ◌+◌, ◌<◌, ◌≤◌, ◌↔◌, All, IsTrue, length, sum_by};
-ghost use Rattle.campaign.specs.declared.ledger.TheConstants.{LETTERS};
+ghost use Rattle.campaign.specs.declared.ledger.TheConstants.{LETTERS, MEMBERS, SEQUENCES};
 
 use super::mark::Mark;
 use arrayvec::ArrayVec;
@@ -34,12 +34,16 @@ impl Default for Kept {
 
 // The marks by fault, a table of fixed size as libraries use no heap, and the kept sequences, one behind the other in `letters`.
 // `letters` is an array beside `used`, since a search writes its sequence in place behind the used ones before it is kept.
+// `all_marks`, `all_letters` and `numbered` are what the fields' types hold: a lemma over a ledger, such as `within_limits`, reads them here alone.
 #[derive(Drop)]
 pub(crate) struct Ledger {
     pub(crate) marks: [Mark; MEMBERS],
     pub(crate) kept: ArrayVec<Kept, SEQUENCES>,
     pub(crate) letters: [u8; LETTERS],
     pub(crate) used: usize,
+    ghost all_marks: { length marks ≡ MEMBERS },
+    ghost all_letters: { length letters ≡ LETTERS },
+    ghost numbered: { length kept.items ≤ SEQUENCES },
     ghost few: { used ≤ LETTERS },
     ghost inside: { All (λ k. k.start + k.length ≤ used) kept.items },
     ghost summed: { sum_by (λ k. k.length) kept.items ≡ used },
