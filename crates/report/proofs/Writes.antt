@@ -15,7 +15,7 @@ sets_append l i (x ∷ xs) ys =
     sets_append (set l i x) (suc i) xs ys ∙ ap (λ (k : ℕ). sets (sets (set l i x) (suc i) xs) k ys) e
 
 -- nothing is written past the end
-sets_past : (l : List ℕ) (i : ℕ) (xs : List ℕ) → length l ≤ i → sets l i xs ≡ l
+pub sets_past : (l : List ℕ) (i : ℕ) (xs : List ℕ) → length l ≤ i → sets l i xs ≡ l
 sets_past l i [] h = refl
 sets_past l i (x ∷ xs) h = ap (λ (z : List ℕ). sets z (suc i) xs) (set_past l i x h) ∙ sets_past l (suc i) xs (omega arith)
 

@@ -39,6 +39,11 @@ impl<'a> Writer<'a> {
     pub(crate) fn push_all(&mut self, bytes: &[u8])
         ensures { Adds bytes.now self.old self.new }
     {
+        // Past the end of the slice a text is counted at once.
+        if self.count >= self.out.len() {
+            self.count = self.count.saturating_add(bytes.len());
+            return;
+        }
         for byte in bytes {
             self.push(*byte);
         }
