@@ -15,17 +15,17 @@ struct Session<'a, R> {
     campaign: Campaign<Table<'static>>,
 }
 
-impl<'a, R: Print + AllocGlobal> Session<'a, R> {
-    fn begin(rt: &'a R, title: &str) -> io::Result<Self> {
-        println!(rt; "{title}:")?;
-        Ok(Session {
+impl<'a, R: Print> Session<'a, R> {
+    fn new(rt: &'a R) -> Self {
+        Session {
             rt,
             campaign: Campaign::make(controller()),
-        })
+        }
     }
 
     // Judges a fault over so many visits. The marks are enough for every pair of states.
-    fn judge(&mut self, fault: u16, work: usize) -> anyhow::Result<()> {
+    // An array is cut to that length: with a vector the program would have a heap to run out of.
+    fn judge(&mut self, fault: u16, work: usize) -> io::Result<()> {
         let rt = self.rt;
         let visit = Visit {
             position: Pair {
@@ -35,15 +35,15 @@ impl<'a, R: Print + AllocGlobal> Session<'a, R> {
             from: 8,
             letter: 8,
         };
-        let mut visits = vec![in rt.alloc(); visit; work]?;
+        let mut visits = [visit; 16];
+        let visits = &mut visits[..work.min(16)];
         let mut marks = [8; 16];
         print!(rt; "  judge {fault} over {work}: ")?;
-        match self.campaign.judge(fault, &mut visits, &mut marks) {
-            Ok(Some(number)) => println!(rt; "sequence {number}")?,
-            Ok(None) => println!(rt; "undetectable")?,
-            Err(refusal) => println!(rt; "{refusal}")?,
+        match self.campaign.judge(fault, visits, &mut marks) {
+            Ok(Some(number)) => println!(rt; "sequence {number}"),
+            Ok(None) => println!(rt; "undetectable"),
+            Err(refusal) => println!(rt; "{refusal}"),
         }
-        Ok(())
     }
 
     fn admit(&mut self, sequence: &[u8]) -> io::Result<()> {
@@ -83,8 +83,9 @@ impl<'a, R: Print + AllocGlobal> Session<'a, R> {
     }
 }
 
-fn forwards(rt: &(impl Print + AllocGlobal)) -> anyhow::Result<()> {
-    let mut session = Session::begin(rt, "1 before 3")?;
+fn forwards(rt: &impl Print) -> io::Result<()> {
+    println!(rt; "1 before 3:")?;
+    let mut session = Session::new(rt);
     session.show_marks()?;
     session.judge(1, 15)?;
     session.judge(1, 16)?;
@@ -99,22 +100,22 @@ fn forwards(rt: &(impl Print + AllocGlobal)) -> anyhow::Result<()> {
     session.read_out(1, 3)?;
     session.read_out(1, 4)?;
     session.read_out(1, usize::MAX)?;
-    session.read_out(2, 0)?;
-    Ok(())
+    session.read_out(2, 0)
 }
 
-fn backwards(rt: &(impl Print + AllocGlobal)) -> anyhow::Result<()> {
-    let mut session = Session::begin(rt, "3 before 1")?;
+fn backwards(rt: &impl Print) -> io::Result<()> {
+    println!(rt; "3 before 1:")?;
+    let mut session = Session::new(rt);
     session.judge(3, 16)?;
     session.judge(1, 16)?;
     session.show_marks()?;
     session.read_out(1, 0)?;
-    session.read_out(2, 0)?;
-    Ok(())
+    session.read_out(2, 0)
 }
 
-fn admitted(rt: &(impl Print + AllocGlobal)) -> anyhow::Result<()> {
-    let mut session = Session::begin(rt, "a client's sequences")?;
+fn admitted(rt: &impl Print) -> io::Result<()> {
+    println!(rt; "a client's sequences:")?;
+    let mut session = Session::new(rt);
     session.admit(&[])?;
     session.admit(&[0, 2])?;
     session.show_marks()?;
@@ -123,13 +124,13 @@ fn admitted(rt: &(impl Print + AllocGlobal)) -> anyhow::Result<()> {
     session.show_marks()?;
     session.judge(1, 16)?;
     session.read_out(2, 1)?;
-    session.read_out(3, 0)?;
-    Ok(())
+    session.read_out(3, 0)
 }
 
 // Sequence 256 is kept, and the next is not: neither a client's nor one for a fault. A fault without one is judged all the same.
-fn last_number(rt: &(impl Print + AllocGlobal)) -> anyhow::Result<()> {
-    let mut session = Session::begin(rt, "the last number")?;
+fn last_number(rt: &impl Print) -> io::Result<()> {
+    println!(rt; "the last number:")?;
+    let mut session = Session::new(rt);
     // Whether they are kept is seen by the numbers that follow.
     for _ in 0..255 {
         let _ = session.campaign.admit(&[0]);
@@ -141,13 +142,13 @@ fn last_number(rt: &(impl Print + AllocGlobal)) -> anyhow::Result<()> {
     session.judge(2, 16)?;
     session.show_marks()?;
     session.read_out(256, 0)?;
-    session.read_out(257, 0)?;
-    Ok(())
+    session.read_out(257, 0)
 }
 
 // One letter too few is refused, and exactly enough is not.
-fn last_letter(rt: &(impl Print + AllocGlobal)) -> anyhow::Result<()> {
-    let mut session = Session::begin(rt, "the last letter")?;
+fn last_letter(rt: &impl Print) -> io::Result<()> {
+    println!(rt; "the last letter:")?;
+    let mut session = Session::new(rt);
     let long = [0; 16384];
     session.admit(&long[..16380])?;
     session.judge(1, 16)?;
@@ -159,11 +160,10 @@ fn last_letter(rt: &(impl Print + AllocGlobal)) -> anyhow::Result<()> {
     session.judge(1, 16)?;
     session.judge(2, 16)?;
     session.show_marks()?;
-    session.read_out(2, 0)?;
-    Ok(())
+    session.read_out(2, 0)
 }
 
-fn main(rt: HostRuntime) -> anyhow::Result<()> {
+fn main(rt: HostRuntime) -> io::Result<()> {
     forwards(&rt)?;
     backwards(&rt)?;
     admitted(&rt)?;

@@ -296,20 +296,22 @@ struct Session<'r, 't, R> {
     table: Table<'t>,
 }
 
-impl<R: Print + AllocGlobal> Session<'_, '_, R> {
+impl<R: Print> Session<'_, '_, R> {
     // Compares over slices of the case's lengths, and prints the answer and what the answer slices then hold.
-    fn try_comparison(&self, case: Comparison) -> anyhow::Result<()> {
-        let heap = self.rt.alloc();
+    // Arrays are cut to these lengths, here and below: with vectors the program would have a heap to run out of.
+    fn try_comparison(&self, case: Comparison) -> io::Result<()> {
         let state = u16::from(case.filling);
         let visit = Visit {
             position: pair(state, state),
             from: u32::from(case.filling),
             letter: case.filling,
         };
-        let mut visits = vec![in heap; visit; case.visits]?;
-        let mut marks = vec![in heap; u32::from(case.filling); case.marks]?;
-        let mut letters = vec![in heap; 9; case.letters]?;
-        let mut pairs = vec![in heap; pair(9, 9); case.pairs]?;
+        let mut visits = [visit; 20];
+        let mut marks = [u32::from(case.filling); 20];
+        let mut letters = [9; 10];
+        let mut pairs = [pair(9, 9); 10];
+        let letters = &mut letters[..case.letters.min(10)];
+        let pairs = &mut pairs[..case.pairs.min(10)];
         print!(self.rt;
             "{} with {}, {} visits, {} marks, filling {}: ",
             case.first, case.second, case.visits, case.marks, case.filling
@@ -318,16 +320,15 @@ impl<R: Print + AllocGlobal> Session<'_, '_, R> {
             &self.table,
             case.first,
             case.second,
-            &mut visits,
-            &mut marks,
-            &mut letters,
-            &mut pairs,
+            &mut visits[..case.visits.min(20)],
+            &mut marks[..case.marks.min(20)],
+            letters,
+            pairs,
         ) {
             Ok(verdict) => print!(self.rt; "{verdict}")?,
             Err(refusal) => print!(self.rt; "{refusal}")?,
         }
-        println!(self.rt; "; letters{}; pairs{}", Spaced(&letters), Spaced(&pairs))?;
-        Ok(())
+        println!(self.rt; "; letters{}; pairs{}", Spaced(letters), Spaced(pairs))
     }
 
     fn try_replay(&self, first: u16, second: u16, sequence: &[u8]) -> io::Result<()> {
@@ -358,16 +359,16 @@ impl<R: Print + AllocGlobal> Session<'_, '_, R> {
     }
 
     // Reaches a state over slices of the case's lengths, and prints the answer and what the answer slice then holds.
-    fn try_reach(&self, case: Reaching) -> anyhow::Result<()> {
-        let heap = self.rt.alloc();
+    fn try_reach(&self, case: Reaching) -> io::Result<()> {
         let visit = Visit {
             position: 7,
             from: 7,
             letter: 7,
         };
-        let mut visits = vec![in heap; visit; case.visits]?;
-        let mut marks = vec![in heap; 7; case.marks]?;
-        let mut letters = vec![in heap; 9; case.letters]?;
+        let mut visits = [visit; 8];
+        let mut marks = [7; 8];
+        let mut letters = [9; 8];
+        let letters = &mut letters[..case.letters.min(8)];
         print!(self.rt;
             "reach {} of {}, {} visits, {} marks: ",
             case.wanted, case.member, case.visits, case.marks
@@ -376,16 +377,15 @@ impl<R: Print + AllocGlobal> Session<'_, '_, R> {
             &self.table,
             case.member,
             case.wanted,
-            &mut visits,
-            &mut marks,
-            &mut letters,
+            &mut visits[..case.visits.min(8)],
+            &mut marks[..case.marks.min(8)],
+            letters,
         ) {
             Ok(Some(length)) => print!(self.rt; "by {length}")?,
             Ok(None) => print!(self.rt; "unreachable")?,
             Err(refusal) => print!(self.rt; "{refusal}")?,
         }
-        println!(self.rt; "; letters{}", Spaced(&letters))?;
-        Ok(())
+        println!(self.rt; "; letters{}", Spaced(letters))
     }
 
     // The words are this program's own: the one that prints the controller puts `at place` for `, place`, and outputs are stored.
@@ -427,9 +427,10 @@ fn pair(first: u16, second: u16) -> Pair {
 }
 
 // Takes a table in over the idle device, and tells what then stands by its counts.
-fn try_intake(rt: &(impl Print + AllocGlobal), case: Intake) -> anyhow::Result<()> {
-    let cells: Vec<Cell> = CELLS.iter().copied().take(case.cells).collect(rt.alloc())?;
-    let altered = vec![in rt.alloc(); case.content; case.altered]?;
+fn try_intake(rt: &impl Print, case: Intake) -> io::Result<()> {
+    let cells = &CELLS[..case.cells.min(8)];
+    let altered = [case.content; 1025];
+    let altered = &altered[..case.altered.min(1025)];
     let mut table = Table::idle();
     print!(rt;
         "{} pins, {} states, reset {}, {} cells, {} altered: ",
@@ -437,9 +438,9 @@ fn try_intake(rt: &(impl Print + AllocGlobal), case: Intake) -> anyhow::Result<(
         case.states,
         case.reset,
         cells.len(),
-        case.altered
+        altered.len()
     )?;
-    match table.take_in(case.pins, case.states, case.reset, &cells, &altered) {
+    match table.take_in(case.pins, case.states, case.reset, cells, altered) {
         Ok(()) => print!(rt; "taken in")?,
         Err(refusal) => print!(rt; "{refusal}")?,
     }
@@ -448,12 +449,11 @@ fn try_intake(rt: &(impl Print + AllocGlobal), case: Intake) -> anyhow::Result<(
         table.members(),
         table.letters(),
         table.states()
-    )?;
-    Ok(())
+    )
 }
 
 // One state and 64 letters: the last letter does, the next does not.
-fn try_last_letter(rt: &(impl Print + AllocGlobal)) -> io::Result<()> {
+fn try_last_letter(rt: &impl Print) -> io::Result<()> {
     let cells = [Cell { next: 0, output: 5 }; 64];
     let altered = [AlteredCell {
         letter: 63,
@@ -471,7 +471,7 @@ fn try_last_letter(rt: &(impl Print + AllocGlobal)) -> io::Result<()> {
 }
 
 // A state that no letter leads to.
-fn try_unreachable(rt: &(impl Print + AllocGlobal)) -> anyhow::Result<()> {
+fn try_unreachable(rt: &impl Print) -> io::Result<()> {
     let cells = [Cell { next: 0, output: 0 }; 4];
     match Table::new(1, 2, 0, &cells, &[]) {
         Ok(table) => Session { rt, table }.try_reach(Reaching {
@@ -480,13 +480,12 @@ fn try_unreachable(rt: &(impl Print + AllocGlobal)) -> anyhow::Result<()> {
             visits: 2,
             marks: 2,
             letters: 2,
-        })?,
-        Err(refusal) => println!(rt; "{refusal}")?,
+        }),
+        Err(refusal) => println!(rt; "{refusal}"),
     }
-    Ok(())
 }
 
-fn main(rt: HostRuntime) -> anyhow::Result<()> {
+fn main(rt: HostRuntime) -> io::Result<()> {
     for case in INTAKES {
         try_intake(&rt, case)?;
     }
@@ -503,6 +502,5 @@ fn main(rt: HostRuntime) -> anyhow::Result<()> {
         session.try_reach(case)?;
     }
     try_unreachable(&rt)?;
-    session.try_checks()?;
-    Ok(())
+    session.try_checks()
 }
