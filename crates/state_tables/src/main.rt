@@ -23,7 +23,7 @@ struct Sizes {
     bytes: usize,
 }
 
-// What a size without a number means.
+// The largest sizes, and what a size without a number means.
 const MOST: Sizes = Sizes {
     cells: MOST_CELLS,
     names: MOST_STATES as usize,
@@ -32,10 +32,11 @@ const MOST: Sizes = Sizes {
     bytes: 40000,
 };
 
-// The number that a word writes, or the most.
+// The number that a word writes, at most the given one, which is also what a word without a number means.
 fn number(word: Option<&str>, most: usize) -> usize {
     word.and_then(|digits| digits.parse::<usize>().ok())
         .unwrap_or(most)
+        .min(most)
 }
 
 // Prints the report over two texts, with slices of these sizes.
