@@ -34,7 +34,7 @@ impl Default for Kept {
 
 // The marks by fault, a table of fixed size as libraries use no heap, and the kept sequences, one behind the other in `letters`.
 // `letters` is an array beside `used`, since a search writes its sequence in place behind the used ones before it is kept.
-// `all_marks`, `all_letters` and `numbered` are what the fields' types hold: a lemma over a ledger, such as `within_limits`, reads them here alone.
+// `all_marks`, `all_letters` and `numbered` repeat what the fields' types hold, for lemmas over a ledger, such as `within_limits`, which see no types.
 #[derive(Drop)]
 pub(crate) struct Ledger {
     pub(crate) marks: [Mark; MEMBERS],
